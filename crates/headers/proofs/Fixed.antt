@@ -1,0 +1,90 @@
+-- A set with one more bit fixed: its members, and that it stays well-formed. For any number of words. Assumes nothing.
+use mathlib.Core.Bool.{Bool, true, false, not, _&&_, _||_, true≢false, false≢true, and-true}
+use mathlib.Core.List.{List}
+use mathlib.Core.Path.{_≡_, refl, sym, ap, ap₂, _∙_}
+use Prim.Native.Nat.{ℕ, _-_, _*_, _/_, _%_, _^_, _<_}
+use native.Mathlib.Decide.{ℕ-discrete}
+use native.Mathlib.Nat.{lt-of-le-of-lt}
+use native.Mathlib.Omega.{arith}
+use borrow.Author.Tests.{eq-eqb, ne-eqb}
+use lib.Bits.{bitAnd, bitOr, and-le-l, and-le-r, or-lt}
+use lib.Dec.{eqb}
+use Rattle.headers.specs.Bits.{word, words, every, Words, complement, bit, bitAt, single}
+use Rattle.headers.specs.Sets.{Header, Set, contains, WellFormed}
+use Rattle.headers.specs.Carving.{free, fixed, opposite}
+use Rattle.headers.proofs.Booleans.{_⇒_, _==_, both-ways, same-true, implied, implies, always}
+use Rattle.headers.proofs.BitLaws.{bit-and, bit-or}
+use Rattle.headers.proofs.Positions.{at, every-at, every-of, every-same, every-and, words-fit, bit-of-words, complement-at, single-fits, single-bit}
+use Rattle.headers.proofs.Members.{contains-bits, value-inside, well-formed}
+
+-- ---- the bits of what carving works with
+
+pub free-bit : (n : ℕ) (p b : Set) → Words n (p .care) → (i : ℕ) → i < n * 32
+    → bitAt (free n p b) i ≡ (bitAt (b .care) i && not (bitAt (p .care) i))
+unfolding bitAt
+free-bit n p b c i l =
+    bit-of-words n _ i l ∙ bit-and _ _ _
+    ∙ ap (λ (x : Bool). at (word (b .care)) i && x) (complement-at (word (p .care)) i (c .fits (i / 32) (omega arith)))
+
+pub free-fits : (n : ℕ) (p b : Set) → Words n (b .care) → Words n (free n p b)
+free-fits n p b c = words-fit n _ (λ w l. lt-of-le-of-lt (and-le-l (word (b .care) w) _) (c .fits w l))
+
+pub opposite-bit : (n : ℕ) (x : List ℕ) → Words n x → (i : ℕ) → i < n * 32 → bitAt (opposite n x) i ≡ not (bitAt x i)
+unfolding bitAt
+opposite-bit n x f i l = bit-of-words n _ i l ∙ complement-at (word x) i (f .fits (i / 32) (omega arith))
+
+pub opposite-fits : (n : ℕ) (x : List ℕ) → Words n (opposite n x)
+opposite-fits n x = words-fit n _ (λ w l. omega arith)
+
+-- ---- one bit fixed
+
+module _ (n : ℕ) (p : Set) (x : List ℕ) (i : ℕ) where
+  pub fixed-care : Words n (p .care) → Words n (fixed n (single n i) x p .care)
+  fixed-care c = words-fit n _ (λ w l. or-lt 32 _ _ (c .fits w l) (single-fits n i .fits w l))
+
+  pub fixed-care-bit : (j : ℕ) → j < n * 32 → bitAt (fixed n (single n i) x p .care) j ≡ (bitAt (p .care) j || eqb i j)
+  unfolding bitAt
+  fixed-care-bit j l =
+      bit-of-words n _ j l ∙ bit-or _ _ _ ∙ ap (λ (b : Bool). at (word (p .care)) j || b) (single-bit n i j l)
+
+  pub fixed-value-bit : (j : ℕ) → j < n * 32
+      → bitAt (fixed n (single n i) x p .value) j ≡ (bitAt (p .value) j && not (eqb i j) || bitAt x j && eqb i j)
+  unfolding bitAt
+  fixed-value-bit j l =
+      bit-of-words n _ j l ∙ bit-or _ _ _
+      ∙ ap₂ _||_
+      (bit-and _ _ _ ∙ ap (λ (b : Bool). at (word (p .value)) j && b)
+      (complement-at (word (single n i)) j (single-fits n i .fits (j / 32) (omega arith)) ∙ ap not (single-bit n i j l)))
+      (bit-and _ _ _ ∙ ap (λ (b : Bool). at (word x) j && b) (single-bit n i j l))
+
+  pub fixed-well-formed : Words n x → WellFormed n p → WellFormed n (fixed n (single n i) x p)
+  fixed-well-formed fx w = well-formed n (fixed n (single n i) x p) (fixed-care (w .care)) value-fits λ j l.
+      ap₂ _⇒_ (fixed-value-bit j l) (fixed-care-bit j l)
+      ∙ implied _ _
+      (always (λ c v x s z. (v ⇒ c) ⇒ (v && not s || x && s ⇒ c || s)) tt (bitAt (p .care) j) (bitAt (p .value) j) (bitAt x j) (eqb i j) true)
+      (value-inside n p w j l)
+    where
+      value-fits : Words n (fixed n (single n i) x p .value)
+      value-fits = words-fit n _ λ w l.
+          or-lt 32 _ _
+          (lt-of-le-of-lt (and-le-r (word (p .value) w) (complement (word (single n i) w))) (omega arith))
+          (lt-of-le-of-lt (and-le-l (word x w) (word (single n i) w)) (fx .fits w l))
+
+  -- a header is in it exactly if it is in p and has x's bit there
+  pub fixed-exact : Words n (p .care) → i < n * 32 → bitAt (p .care) i ≡ false → (h : Header)
+      → contains n (fixed n (single n i) x p) h ≡ (contains n p h && (bitAt h i == bitAt x i))
+  fixed-exact c inside free h =
+      contains-bits n (fixed n (single n i) x p) (fixed-care c) h
+      ∙ every-same (n * 32) _ _ (λ j l.
+      ap₂ (λ (a b : Bool). a ⇒ bitAt h j == b) (fixed-care-bit j l) (fixed-value-bit j l)
+      ∙ same-true _ _ (implied _ _
+      (always (λ h c v x s. (s ⇒ not c) ⇒ (c || s ⇒ h == (v && not s || x && s)) == ((c ⇒ h == v) && (s ⇒ h == x))) tt
+      (bitAt h j) (bitAt (p .care) j) (bitAt (p .value) j) (bitAt x j) (eqb i j))
+      (implies _ _ (λ e. ap (λ (k : ℕ). not (bitAt (p .care) k)) (sym (borrow.Author.Tests.eqb-true i j e)) ∙ ap not free))))
+      ∙ every-and (n * 32) _ _
+      ∙ ap₂ _&&_ (sym (contains-bits n p c h)) here
+    where
+      here : every (n * 32) (λ j. eqb i j ⇒ bitAt h j == bitAt x j) ≡ (bitAt h i == bitAt x i)
+      here = both-ways _ _
+          (λ e. implied _ _ (every-at (n * 32) _ e i inside) (eq-eqb i i refl))
+          (λ e. every-of (n * 32) _ λ j l. implies _ _ λ d. ap (λ (k : ℕ). bitAt h k == bitAt x k) (sym (borrow.Author.Tests.eqb-true i j d)) ∙ e)

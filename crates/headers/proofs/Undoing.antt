@@ -1,0 +1,91 @@
+-- Undoing a rewrite is exact, for any number of words. Assumes nothing.
+use mathlib.Core.Bool.{Bool, true, false, not, _&&_, _||_, cond, true≢false}
+use mathlib.Core.Logic.{_↔_}
+use mathlib.Core.List.{List}
+use mathlib.Core.Option.{Option, some, none}
+use mathlib.Core.Path.{_≡_, refl, sym, ap, ap₂, _∙_, subst}
+use Prim.Native.Nat.{ℕ, _-_, _*_, _/_, _%_, _^_, _<_}
+use native.Mathlib.Nat.{lt-of-le-of-lt}
+use native.Mathlib.Omega.{arith}
+use lib.Bits.{bitAnd, and-le-l}
+use Rattle.headers.specs.Bits.{word, words, every, Words, complement, bit, bitAt}
+use Rattle.headers.specs.Sets.{Header, Set, Rewrite, contains, WellFormed, Written, overlaps, among, rewritten, writes, widened, undone, noRewrite}
+use Rattle.headers.proofs.Booleans.{_⇒_, _==_, refuted, same-true, implied, always}
+use Rattle.headers.proofs.BitLaws.{bit-and}
+use Rattle.headers.proofs.Positions.{at, every-at, every-of, every-same, words-fit, bit-of-words, complement-at, words-ext}
+use Rattle.headers.proofs.Members.{contains-bits, value-inside, well-formed, rewritten-bit, rewritten-fits, empty-exactly, no-bit, no-bits}
+use Rattle.headers.proofs.Intersection.{overlaps-bits}
+
+module _ (n : ℕ) (r : Rewrite) (t : Set) (m : Words n (r .mask)) where
+  -- the bits of a list of words outside the mask
+  outside-bit : (l : List ℕ) (i : ℕ) → i < n * 32
+      → bitAt (words n (λ w. bitAnd (word l w) (complement (word (r .mask) w)))) i ≡ (bitAt l i && not (bitAt (r .mask) i))
+  unfolding bitAt
+  outside-bit l i k =
+      bit-of-words n _ i k ∙ bit-and _ _ _
+      ∙ ap (λ (x : Bool). at (word l) i && x) (complement-at (word (r .mask)) i (m .fits (i / 32) (omega arith)))
+
+  outside-fits : (l : List ℕ) → Words n l → Words n (words n (λ w. bitAnd (word l w) (complement (word (r .mask) w))))
+  outside-fits l f = words-fit n _ (λ w k. lt-of-le-of-lt (and-le-l (word l w) _) (f .fits w k))
+
+  module _ (c : Words n (t .care)) where
+    -- what rewrites into t agrees with t where t cares for a masked bit
+    rewrites-overlap : (h : Header) → contains n t (rewritten n r h) ≡ true → overlaps n t (writes r) ≡ true
+    rewrites-overlap h e = overlaps-bits n t (writes r) c ∙ every-of (n * 32) _ λ i l.
+        implied _ _
+        (always (λ h m x c v. (c ⇒ (h && not m || x && m) == v) ⇒ (c && m ⇒ v == x)) tt
+        (bitAt h i) (bitAt (r .mask) i) (bitAt (r .value) i) (bitAt (t .care) i) (bitAt (t .value) i))
+        (ap (λ (x : Bool). bitAt (t .care) i ⇒ x == bitAt (t .value) i) (sym (rewritten-bit n r m h i l))
+        ∙ every-at (n * 32) _ (sym (contains-bits n t c (rewritten n r h)) ∙ e) i l)
+
+    widened-exact : overlaps n t (writes r) ≡ true → (h : Header) → contains n (widened n (r .mask) t) h ≡ contains n t (rewritten n r h)
+    widened-exact o h =
+        contains-bits n (widened n (r .mask) t) (outside-fits (t .care) c) h
+        ∙ every-same (n * 32) _ _ (λ i l.
+        ap₂ (λ (x y : Bool). x ⇒ bitAt h i == y) (outside-bit (t .care) i l) (outside-bit (t .value) i l)
+        ∙ same-true _ _ (implied _ _
+        (always (λ h m x c v. (c && m ⇒ v == x) ⇒ (c && not m ⇒ h == (v && not m)) == (c ⇒ (h && not m || x && m) == v)) tt
+        (bitAt h i) (bitAt (r .mask) i) (bitAt (r .value) i) (bitAt (t .care) i) (bitAt (t .value) i))
+        (every-at (n * 32) _ (sym (overlaps-bits n t (writes r) c) ∙ o) i l))
+        ∙ ap (λ (x : Bool). bitAt (t .care) i ⇒ x == bitAt (t .value) i) (sym (rewritten-bit n r m h i l)))
+        ∙ sym (contains-bits n t c (rewritten n r h))
+
+    -- a header is in the undone set exactly if its rewritten header is in the set
+    pub undone-exact : (h : Header) → among n (undone n r t) h ≡ contains n t (rewritten n r h)
+    unfolding undone
+    undone-exact h = go (overlaps n t (writes r)) refl
+      where
+        go : (o : Bool) → overlaps n t (writes r) ≡ o → among n (cond o (some (widened n (r .mask) t)) none) h ≡ contains n t (rewritten n r h)
+        go true e = widened-exact e h
+        go false e = sym (refuted _ λ p. true≢false (sym (rewrites-overlap h p) ∙ e))
+
+  pub undone-well-formed : WellFormed n t → (s : Set) → undone n r t ≡ some s → WellFormed n s
+  unfolding undone
+  undone-well-formed wt s e = go (overlaps n t (writes r)) e
+    where
+      widened-well-formed : WellFormed n (widened n (r .mask) t)
+      widened-well-formed = well-formed n (widened n (r .mask) t) (outside-fits (t .care) (wt .care)) (outside-fits (t .value) (wt .value)) λ i l.
+          ap₂ _⇒_ (outside-bit (t .value) i l) (outside-bit (t .care) i l)
+          ∙ implied _ _
+          (always (λ v c m x y. (v ⇒ c) ⇒ (v && not m ⇒ c && not m)) tt (bitAt (t .value) i) (bitAt (t .care) i) (bitAt (r .mask) i) true true)
+          (value-inside n t wt i l)
+
+      go : (o : Bool) → cond o (some (widened n (r .mask) t)) none ≡ some s → WellFormed n s
+      go true e = let d : widened n (r .mask) t ≡ s = cc in subst (WellFormed n) d widened-well-formed
+      go false e = let z : _≡_ {A = ℕ} 0 1 = cc in absurd (omega arith)
+
+  -- it is empty exactly if no header's rewrite is in the set
+  pub undone-empty : WellFormed n t → (undone n r t ≡ none) ↔ ((h : Header) → Words n h → contains n t (rewritten n r h) ≡ false)
+  undone-empty wt =
+      empty-exactly n (undone n r t) (λ h. contains n t (rewritten n r h)) (λ s e. undone-well-formed wt s e .care)
+      (λ h w. undone-exact (wt .care) h)
+
+-- the rewrite that masks no bit leaves every header as it is
+pub no-rewrite-keeps : (n : ℕ) (h : Header) → Words n h → rewritten n (noRewrite n) h ≡ h
+no-rewrite-keeps n h f = words-ext n (rewritten n (noRewrite n) h) h
+    (rewritten-fits n (noRewrite n) (record { mask = no-bits n; value = no-bits n }) h) f
+    (λ i l. rewritten-bit n (noRewrite n) (no-bits n) h i l ∙ ap (λ (b : Bool). bitAt h i && not b || b && b) (no-bit n i l) ∙ kept (bitAt h i))
+  where
+    kept : (x : Bool) → (x && true || false) ≡ x
+    kept true = refl
+    kept false = refl

@@ -1,0 +1,80 @@
+-- Carving P by B over n words: document 01, "Carving P by B". Assumes nothing.
+use mathlib.Core.Bool.{Bool, true, false, _||_, cond}
+use mathlib.Core.List.{List, [], _∷_}
+use mathlib.Core.Option.{Option, some, none}
+use Prim.Native.Nat.{ℕ, _+_}
+use lib.Bits.{bitAnd, bitOr}
+use Rattle.headers.specs.Bits.{word, words, complement, setBits, single}
+use Rattle.headers.specs.Sets.{Header, Set, overwrite, contains, overlaps}
+
+-- "the bits .. that B cares for and P doesn't"
+abbrev pub free : ℕ → Set → Set → List ℕ
+free n p b = words n (λ w. bitAnd (word (b .care) w) (complement (word (p .care) w)))
+
+-- P caring for the bits of a mask too, with x's values there
+abbrev pub fixed : ℕ → List ℕ → List ℕ → Set → Set
+fixed n m x p = record {
+  care = words n (λ w. bitOr (word (p .care) w) (word m w));
+  value = words n (λ w. overwrite (word m w) (word x w) (word (p .value) w));
+}
+
+-- every word turned round
+abbrev pub opposite : ℕ → List ℕ → List ℕ
+opposite n x = words n (λ w. complement (word x w))
+
+-- P with the bit at position i as in B
+abbrev pub like : ℕ → Set → Set → ℕ → Set
+like n p b i = fixed n (single n i) (b .value) p
+
+-- P with the bit at position i opposite to B's
+abbrev pub unlike : ℕ → Set → Set → ℕ → Set
+unlike n p b i = fixed n (single n i) (opposite n (b .value)) p
+
+-- "one part each: P with the earlier such bits as in B and this one opposite"
+unfoldable pub partsAt : ℕ → Set → Set → List ℕ → List Set
+partsAt n p b [] = []
+partsAt n p b (i ∷ later) = unlike n p b i ∷ partsAt n (like n p b i) b later
+
+-- "over the bits from first to last that B cares for and P doesn't"
+unfoldable pub parts : ℕ → Set → Set → List Set
+parts n p b = partsAt n p b (setBits n (free n p b))
+
+-- "if they don't intersect, P alone. Else .. No such bit: no part."
+unfoldable pub carve : ℕ → Set → Set → List Set
+carve n p b = cond (overlaps n p b) (parts n p b) (p ∷ [])
+
+-- ---- carving part by part
+
+-- one part, and what P is for the parts after it
+pub record Cut : Type 0 where
+  pub part : Set
+  pub rest : Set
+
+abbrev pub cutAt : ℕ → Set → Set → List ℕ → Option Cut
+cutAt n p b [] = none
+cutAt n p b (i ∷ later) = some (record { part = unlike n p b i; rest = like n p b i })
+
+-- the first of the parts, if there is one
+unfoldable pub nextCut : ℕ → Set → Set → Option Cut
+nextCut n p b = cutAt n p b (setBits n (free n p b))
+
+-- ---- what is said of the parts
+
+-- each of the sets has the property
+unfoldable pub Each : (Set → Type 0) → List Set → Type 0
+Each P [] = Unit {0}
+Each P (s ∷ l) = P s × Each P l
+
+-- some one of the sets holds h
+unfoldable pub within : ℕ → List Set → Header → Bool
+within n [] h = false
+within n (s ∷ l) h = contains n s h || within n l h
+
+abbrev pub one : Bool → ℕ
+one true = 1
+one false = 0
+
+-- how many of the sets hold h
+unfoldable pub holders : ℕ → List Set → Header → ℕ
+holders n [] h = 0
+holders n (s ∷ l) h = one (contains n s h) + holders n l h

@@ -1,0 +1,32 @@
+-- The structs of the code as sets, rewrites and answers over four words. Assumes nothing.
+use mathlib.Core.List.{List}
+use mathlib.Core.Option.{Option, some, none}
+use mathlib.Core.Bool.{true, false}
+use Prim.Native.Nat.{ℕ}
+use Rattle.headers.specs.Bits.{words}
+use Rattle.headers.specs.Sets.{Set, Rewrite, allWild}
+use Rattle.headers.specs.Carving.{Cut}
+use Rattle.headers.specs.declared.HeaderSet.{HeaderSet}
+use Rattle.headers.specs.declared.Action.{Action}
+use Rattle.headers.specs.declared.MaybeSet.{MaybeSet}
+use Rattle.headers.specs.declared.NextPart.{NextPart}
+
+abbrev pub setOf : HeaderSet → Set
+setOf s = record { care = s .care; value = s .value }
+
+abbrev pub rewriteOf : Action → Rewrite
+rewriteOf a = record { mask = a .mask; value = a .value }
+
+-- a set as the code has it
+abbrev pub formOf : Set → HeaderSet
+formOf s = record { care = s .care; value = s .value }
+
+-- 'empty' is `some` false, with the all-wild set in the unused place
+abbrev pub maybeOf : Option Set → MaybeSet
+maybeOf none = record { some = false; set = formOf (allWild 4) }
+maybeOf (some s) = record { some = true; set = formOf s }
+
+-- 'no part' is `some` false, with all-wild sets in the unused places
+abbrev pub nextOf : Option Cut → NextPart
+nextOf none = record { some = false; part = formOf (allWild 4); rest = formOf (allWild 4) }
+nextOf (some c) = record { some = true; part = formOf (c .part); rest = formOf (c .rest) }

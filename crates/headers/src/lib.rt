@@ -1,0 +1,271 @@
+// Header sets of four words: membership, intersection, rewrites and their undoing, and carving.
+// Document 01, "Header sets". What each call means is in specs/Sets.antt and specs/Carving.antt, for any number of words;
+// what follows from it is in proofs/: Members, Intersection, Undoing, Carved, Lowest.
+ghost use mathlib.Core.Path.{_≡_};
+ghost use mathlib.Core.Bool.{_&&_};
+ghost use Prim.Native.Nat.{_<_};
+ghost use Rattle.headers.specs.Bits.{firstBit, noBit, topBit};
+ghost use Rattle.headers.specs.Sets.{contains, tidy, overlaps, joined, intersection, rewritten, widened, undone, lowest, allWild, noRewrite, writes};
+ghost use Rattle.headers.specs.Carving.{free, fixed, opposite, nextCut};
+ghost use Rattle.headers.specs.Forms.{setOf, rewriteOf, formOf, maybeOf, nextOf};
+
+// The headers that equal the value on every care bit.
+pub struct HeaderSet {
+    pub care: [u32; 4],
+    pub value: [u32; 4],
+}
+
+// What an entry does to a header: masked bits become the value's.
+pub struct Action {
+    pub mask: [u32; 4],
+    pub value: [u32; 4],
+}
+
+// A set, or empty where `some` is false.
+pub struct MaybeSet {
+    pub some: bool,
+    pub set: HeaderSet,
+}
+
+// The first part of a carving and the set that the later parts are made of, or no part where `some` is false.
+pub struct NextPart {
+    pub some: bool,
+    pub part: HeaderSet,
+    pub rest: HeaderSet,
+}
+
+impl HeaderSet {
+    // The set of every header.
+    pub fn all_wild() -> Self
+        ensures { λ r. ⌜ r ≡ formOf (allWild 4) ⌝ }
+    {
+        HeaderSet {
+            care: [0; 4],
+            value: [0; 4],
+        }
+    }
+
+    // Are the value bits outside care 0?
+    pub fn is_tidy(self) -> bool
+        ensures { λ r. ⌜ r ≡ tidy 4 (setOf self) ⌝ }
+    {
+        let c = self.care;
+        let v = self.value;
+        (v[0] & !c[0] == 0) & (v[1] & !c[1] == 0) & (v[2] & !c[2] == 0) & (v[3] & !c[3] == 0)
+    }
+
+    pub fn contains(self, h: [u32; 4]) -> bool
+        ensures { λ r. ⌜ r ≡ contains 4 (setOf self) h ⌝ }
+    {
+        let c = self.care;
+        let v = self.value;
+        (h[0] & c[0] == v[0] & c[0])
+            & (h[1] & c[1] == v[1] & c[1])
+            & (h[2] & c[2] == v[2] & c[2])
+            & (h[3] & c[3] == v[3] & c[3])
+    }
+
+    // The member with every wild bit 0.
+    pub fn lowest(self) -> [u32; 4]
+        ensures { λ r. ⌜ r ≡ lowest 4 (setOf self) ⌝ }
+    {
+        let c = self.care;
+        let v = self.value;
+        [v[0] & c[0], v[1] & c[1], v[2] & c[2], v[3] & c[3]]
+    }
+
+    // Do the values agree on every bit that both care for?
+    pub fn overlaps(self, b: HeaderSet) -> bool
+        ensures { λ r. ⌜ r ≡ overlaps 4 (setOf self) (setOf b) ⌝ }
+    {
+        let c = self.care;
+        let v = self.value;
+        let d = b.care;
+        let w = b.value;
+        let m = [c[0] & d[0], c[1] & d[1], c[2] & d[2], c[3] & d[3]];
+        (v[0] & m[0] == w[0] & m[0])
+            & (v[1] & m[1] == w[1] & m[1])
+            & (v[2] & m[2] == w[2] & m[2])
+            & (v[3] & m[3] == w[3] & m[3])
+    }
+
+    pub fn intersect(self, b: HeaderSet) -> MaybeSet
+        ensures { λ r. ⌜ r ≡ maybeOf (intersection 4 (setOf self) (setOf b)) ⌝ }
+    {
+        if self.overlaps(b) {
+            MaybeSet {
+                some: true,
+                set: self.joined(b),
+            }
+        } else {
+            MaybeSet {
+                some: false,
+                set: HeaderSet::all_wild(),
+            }
+        }
+    }
+
+    // What two sets that overlap have in common.
+    fn joined(self, b: HeaderSet) -> HeaderSet
+        ensures { λ r. ⌜ r ≡ formOf (joined 4 (setOf self) (setOf b)) ⌝ }
+    {
+        let c = self.care;
+        let v = self.value;
+        let d = b.care;
+        let w = b.value;
+        let care = [c[0] | d[0], c[1] | d[1], c[2] | d[2], c[3] | d[3]];
+        let value = [v[0] | w[0], v[1] | w[1], v[2] | w[2], v[3] | w[3]];
+        HeaderSet { care, value }
+    }
+
+    // The set with all bits of a mask wild.
+    fn widened(self, m: [u32; 4]) -> HeaderSet
+        ensures { λ r. ⌜ r ≡ formOf (widened 4 m (setOf self)) ⌝ }
+    {
+        let c = self.care;
+        let v = self.value;
+        let care = [c[0] & !m[0], c[1] & !m[1], c[2] & !m[2], c[3] & !m[3]];
+        let value = [v[0] & !m[0], v[1] & !m[1], v[2] & !m[2], v[3] & !m[3]];
+        HeaderSet { care, value }
+    }
+
+    // The bits that b cares for and this set doesn't.
+    fn free(self, b: HeaderSet) -> [u32; 4]
+        ensures { λ r. ⌜ r ≡ free 4 (setOf self) (setOf b) ⌝ }
+    {
+        let c = self.care;
+        let d = b.care;
+        [d[0] & !c[0], d[1] & !c[1], d[2] & !c[2], d[3] & !c[3]]
+    }
+
+    // The set caring for the bits of a mask too, with x's values there.
+    fn fixed(self, m: [u32; 4], x: [u32; 4]) -> HeaderSet
+        ensures { λ r. ⌜ r ≡ formOf (fixed 4 m x (setOf self)) ⌝ }
+    {
+        let c = self.care;
+        let v = self.value;
+        let care = [c[0] | m[0], c[1] | m[1], c[2] | m[2], c[3] | m[3]];
+        let value = [
+            v[0] & !m[0] | x[0] & m[0],
+            v[1] & !m[1] | x[1] & m[1],
+            v[2] & !m[2] | x[2] & m[2],
+            v[3] & !m[3] | x[3] & m[3],
+        ];
+        HeaderSet { care, value }
+    }
+
+    // The first part of this set carved by b, which it overlaps. Carving goes on with `rest` in the set's place.
+    pub fn next_part(self, b: HeaderSet) -> NextPart
+        ensures { λ r. ⌜ r ≡ nextOf (nextCut 4 (setOf self) (setOf b)) ⌝ }
+    {
+        let bits = self.free(b);
+        if none_set(bits) {
+            return NextPart {
+                some: false,
+                part: HeaderSet::all_wild(),
+                rest: HeaderSet::all_wild(),
+            };
+        }
+        let first = first_bit(bits);
+        let v = b.value;
+        let part = self.fixed(first, opposite(v));
+        let rest = self.fixed(first, v);
+        NextPart {
+            some: true,
+            part,
+            rest,
+        }
+    }
+}
+
+impl Action {
+    // The action that leaves every header as it is.
+    pub fn no_rewrite() -> Self
+        ensures { λ r. ⌜ rewriteOf r ≡ noRewrite 4 ⌝ }
+    {
+        Action {
+            mask: [0; 4],
+            value: [0; 4],
+        }
+    }
+
+    // The action's written bits, as the set of headers that have them.
+    pub fn writes(self) -> HeaderSet
+        ensures { λ r. ⌜ r ≡ formOf (writes (rewriteOf self)) ⌝ }
+    {
+        let care = self.mask;
+        let value = self.value;
+        HeaderSet { care, value }
+    }
+
+    pub fn apply(self, h: [u32; 4]) -> [u32; 4]
+        ensures { λ r. ⌜ r ≡ rewritten 4 (rewriteOf self) h ⌝ }
+    {
+        let m = self.mask;
+        let v = self.value;
+        [
+            h[0] & !m[0] | v[0] & m[0],
+            h[1] & !m[1] | v[1] & m[1],
+            h[2] & !m[2] | v[2] & m[2],
+            h[3] & !m[3] | v[3] & m[3],
+        ]
+    }
+
+    // The headers that this action takes into t.
+    pub fn undo(self, t: HeaderSet) -> MaybeSet
+        ensures { λ r. ⌜ r ≡ maybeOf (undone 4 (rewriteOf self) (setOf t)) ⌝ }
+    {
+        if t.overlaps(self.writes()) {
+            let m = self.mask;
+            MaybeSet {
+                some: true,
+                set: t.widened(m),
+            }
+        } else {
+            MaybeSet {
+                some: false,
+                set: HeaderSet::all_wild(),
+            }
+        }
+    }
+}
+
+// Every bit turned round.
+fn opposite(x: [u32; 4]) -> [u32; 4]
+    ensures { λ r. ⌜ r ≡ opposite 4 x ⌝ }
+{
+    [!x[0], !x[1], !x[2], !x[3]]
+}
+
+fn none_set(x: [u32; 4]) -> bool
+    ensures { λ r. ⌜ r ≡ noBit 4 x ⌝ }
+{
+    (x[0] == 0) & (x[1] == 0) & (x[2] == 0) & (x[3] == 0)
+}
+
+// The highest set bit of a word, alone.
+fn top_bit(x: u32) -> u32
+    requires { ⌜ 0 < x ⌝ }
+    ensures { λ r. ⌜ r ≡ topBit x ⌝ }
+{
+    1u32 << (31 - u32::leading_zeros(x))
+}
+
+// The first set bit, alone; no bit where none is set.
+fn first_bit(x: [u32; 4]) -> [u32; 4]
+    ensures { λ r. ⌜ r ≡ firstBit 4 x ⌝ }
+{
+    if x[0] != 0 {
+        return [top_bit(x[0]), 0, 0, 0];
+    }
+    if x[1] != 0 {
+        return [0, top_bit(x[1]), 0, 0];
+    }
+    if x[2] != 0 {
+        return [0, 0, top_bit(x[2]), 0];
+    }
+    if x[3] != 0 {
+        return [0, 0, 0, top_bit(x[3])];
+    }
+    [0, 0, 0, 0]
+}
