@@ -1,0 +1,207 @@
+//! The three calls "on byte slices and numbers", with questions 8 to 13.
+
+use std::ops::ControlFlow;
+
+use crate::fabric::{Edge, Fabric};
+use crate::file;
+use crate::forward;
+use crate::index::Index;
+use crate::refusal::{ask, Refusal};
+use crate::set::{from_words, to_words, Header, Set};
+use crate::trace::{trace, Ended, Find, MOST_HOPS};
+
+/// Words 1 to 11 of the program's query.
+#[derive(Clone, Copy, Debug, PartialEq, Eq)]
+pub struct Query {
+    /// The target, or a run's start.
+    pub port: u32,
+    pub limit: u32,
+    /// Unused by a run.
+    pub budget: u32,
+    pub care: [u32; 4],
+    pub value: [u32; 4],
+}
+
+impl Query {
+    /// The asked set; a run's is its header alone.
+    pub fn asked(&self) -> Set {
+        Set {
+            care: from_words(self.care),
+            value: from_words(self.value),
+        }
+    }
+}
+
+/// The words that a verdict or a run fills.
+pub const ANSWER_WORDS: usize = 24;
+/// The kinds of the list's words.
+const FIND: u32 = 6;
+const TAKEN: u32 = 7;
+
+/// Is the target isolated?
+pub fn verdict(file: &[u8], area: &mut [u8], query: &Query) -> u64 {
+    let words = file::read(file).and_then(|fabric| judge(&fabric, area.len(), query));
+    hand_over(words, area)
+}
+
+/// Every find.
+pub fn list(file: &[u8], area: &mut [u8], query: &Query) -> u64 {
+    let words = file::read(file).and_then(|fabric| gather(&fabric, area.len(), query));
+    hand_over(words, area)
+}
+
+/// One packet's way.
+pub fn run(file: &[u8], area: &mut [u8], query: &Query) -> u64 {
+    let words = file::read(file).and_then(|fabric| travel(&fabric, area.len(), query));
+    hand_over(words, area)
+}
+
+/// "Success has number 0 and as place the words written. Bytes past those
+/// stay; after a no every lent byte stays."
+fn hand_over(words: Result<Vec<u32>, Refusal>, area: &mut [u8]) -> u64 {
+    match words {
+        Ok(words) => {
+            for (lent, word) in area.chunks_exact_mut(4).zip(&words) {
+                lent.copy_from_slice(&word.to_le_bytes());
+            }
+            Refusal::new(0, words.len()).code()
+        }
+        Err(refusal) => refusal.code(),
+    }
+}
+
+/// Questions 8, 9, 10 and 12, then the trace for 13.
+fn judge(fabric: &Fabric, lent: usize, query: &Query) -> Result<Vec<u32>, Refusal> {
+    let (target, limit) = aim(fabric, query)?;
+    ask(12, 0, lent >= ANSWER_WORDS * 4)?;
+    let mut reached = Vec::new();
+    let visit = |find: &Find| {
+        let edge = &fabric.edges[find.edge];
+        match foreign_header(find, edge, target) {
+            Some(header) => {
+                reached = answer(edge.port, find.entries, header);
+                ControlFlow::Break(())
+            }
+            None => ControlFlow::Continue(()),
+        }
+    };
+    let index = Index::new(fabric);
+    match trace(
+        &index,
+        target.port,
+        limit,
+        query.asked(),
+        query.budget,
+        visit,
+    ) {
+        Ended::Whole(units) => {
+            let mut words = vec![0; ANSWER_WORDS];
+            words[1] = units;
+            Ok(words)
+        }
+        Ended::Stopped(units) => {
+            reached[0] = 1;
+            reached[1] = units;
+            Ok(reached)
+        }
+        Ended::Spent => Err(Refusal::new(13, 0)),
+    }
+}
+
+/// Questions 8, 9 and 10, then the trace for 13, then question 12. Words that
+/// don't fit any more are only counted.
+fn gather(fabric: &Fabric, lent: usize, query: &Query) -> Result<Vec<u32>, Refusal> {
+    let (target, limit) = aim(fabric, query)?;
+    let room = lent / 4;
+    let mut words = Vec::new();
+    let mut needed: u64 = 0;
+    let visit = |find: &Find| {
+        needed += find_words(find) as u64;
+        if needed <= room as u64 {
+            list_find(find, fabric.edges[find.edge].port, &mut words);
+        }
+        ControlFlow::Continue(())
+    };
+    let index = Index::new(fabric);
+    let ended = trace(
+        &index,
+        target.port,
+        limit,
+        query.asked(),
+        query.budget,
+        visit,
+    );
+    ask(13, 0, ended != Ended::Spent)?;
+    ask(12, 0, needed <= room as u64)?;
+    Ok(words)
+}
+
+/// Questions 9, 10, 11 and 12, then the packet run.
+fn travel(fabric: &Fabric, lent: usize, query: &Query) -> Result<Vec<u32>, Refusal> {
+    let asked = query.asked();
+    let limit = limit(query)?;
+    ask(10, 0, asked.is_proper() && asked.care == !0)?;
+    let start = fabric.edge(query.port).ok_or(Refusal::new(11, 0))?;
+    ask(12, 0, lent >= ANSWER_WORDS * 4)?;
+    let run = forward::run(fabric, start.port, asked.value, limit);
+    let entries: Vec<u16> = run.entries.iter().map(|&entry| entry as u16).collect();
+    let mut words = answer(run.port, &entries, run.header);
+    words[0] = run.fate as u32;
+    Ok(words)
+}
+
+/// Questions 8, 9 and 10 of a verdict or list: the target and the limit.
+fn aim<'f>(fabric: &'f Fabric, query: &Query) -> Result<(&'f Edge, usize), Refusal> {
+    let target = fabric.edge(query.port).ok_or(Refusal::new(8, 0))?;
+    let limit = limit(query)?;
+    ask(10, 0, query.asked().is_proper())?;
+    Ok((target, limit))
+}
+
+/// Question 9: "Is the hop limit 1 to 16?"
+fn limit(query: &Query) -> Result<usize, Refusal> {
+    let limit = query.limit as usize;
+    ask(9, 0, (1..=MOST_HOPS).contains(&limit))?;
+    Ok(limit)
+}
+
+/// The foreign packet that the verdict returns: "in a foreign group the find's
+/// lowest header, else the lowest of the first part of the find carved by the
+/// admitted set".
+fn foreign_header(find: &Find, edge: &Edge, target: &Edge) -> Option<Header> {
+    if edge.group != target.group {
+        return Some(find.set.lowest());
+    }
+    let first = find.set.carve(&edge.admitted).next();
+    first.map(|part| part.lowest())
+}
+
+/// The 24 words that a verdict and a run have in common: words 0 and 1 are
+/// left 0, then port, hops, header (4) and entries (16).
+fn answer(port: u16, entries: &[u16], header: Header) -> Vec<u32> {
+    let mut words = vec![0, 0, u32::from(port), entries.len() as u32];
+    words.extend(to_words(header));
+    words.extend(entries.iter().map(|&entry| u32::from(entry)));
+    words.resize(ANSWER_WORDS, 0);
+    words
+}
+
+/// The words that this find takes in the list.
+fn find_words(find: &Find) -> usize {
+    1 + find.entries.len() + 8
+}
+
+/// "Word of kind 6 (bits 27..12 hops, 11..0 edge port); for each entry in
+/// travelling order a word of kind 7 with its number below; care (4), value
+/// (4)."
+fn list_find(find: &Find, port: u16, words: &mut Vec<u32>) {
+    let hops = find.entries.len() as u32;
+    words.push(FIND << 28 | hops << 12 | u32::from(port));
+    words.extend(
+        find.entries
+            .iter()
+            .map(|&entry| TAKEN << 28 | u32::from(entry)),
+    );
+    words.extend(to_words(find.set.care));
+    words.extend(to_words(find.set.value));
+}

@@ -1,0 +1,55 @@
+//! A fabric as plain records: what a fabric file says.
+
+use crate::set::{Rewrite, Set};
+
+/// Ports are 1 to 4,095, so a table by port has this length.
+pub const PORTS: usize = 4096;
+pub const MOST_EDGES: usize = 64;
+pub const MOST_LINKS: usize = 256;
+pub const MOST_ENTRIES: usize = 512;
+pub const MOST_ENTRIES_PER_IN_PORT: usize = 64;
+
+/// "The headers that this port's group may send there, its admitted set."
+#[derive(Clone, Copy, Debug, PartialEq, Eq)]
+pub struct Edge {
+    pub group: u16,
+    pub port: u16,
+    pub admitted: Set,
+}
+
+/// "One way."
+#[derive(Clone, Copy, Debug, PartialEq, Eq)]
+pub struct Link {
+    pub from: u16,
+    pub to: u16,
+}
+
+/// An entry; its number is its index in `Fabric::entries`. Out-port 0 drops.
+#[derive(Clone, Copy, Debug, PartialEq, Eq)]
+pub struct Entry {
+    pub priority: u16,
+    pub in_port: u16,
+    pub out_port: u16,
+    pub matching: Set,
+    pub rewrite: Rewrite,
+}
+
+/// All records in file order.
+#[derive(Clone, Debug, Default, PartialEq, Eq)]
+pub struct Fabric {
+    pub edges: Vec<Edge>,
+    pub links: Vec<Link>,
+    pub entries: Vec<Entry>,
+}
+
+impl Fabric {
+    /// The edge at this port, if it is an edge port.
+    pub fn edge(&self, port: u32) -> Option<&Edge> {
+        self.edges.iter().find(|edge| u32::from(edge.port) == port)
+    }
+
+    /// The link that leads on from this out-port.
+    pub fn link_from(&self, port: u16) -> Option<&Link> {
+        self.links.iter().find(|link| link.from == port)
+    }
+}

@@ -1,0 +1,222 @@
+//! The fabric file, read and written: document 01, "The fabric file" and
+//! questions 1 to 7.
+
+use crate::fabric::{
+    Edge, Entry, Fabric, Link, MOST_EDGES, MOST_ENTRIES, MOST_ENTRIES_PER_IN_PORT, MOST_LINKS,
+    PORTS,
+};
+use crate::refusal::{ask, Refusal};
+use crate::set::{from_words, to_words, Rewrite, Set};
+
+pub const START: u32 = 1;
+pub const EDGE: u32 = 2;
+pub const LINK: u32 = 3;
+pub const ENTRY: u32 = 4;
+pub const END: u32 = 5;
+
+pub const EDGE_WORDS: usize = 9;
+pub const LINK_WORDS: usize = 1;
+pub const ENTRY_WORDS: usize = 18;
+pub const MOST_BYTES: usize = 40_200;
+
+/// The start of a file of this many words, "version (1)".
+pub fn start_word(words: usize) -> u32 {
+    START << 28 | 1 << 16 | words as u32 & 0xffff
+}
+
+/// Reads a file by asking questions 1 to 7 in turn; questions 3 to 7 are asked
+/// of one record before the next is looked at.
+pub fn read(bytes: &[u8]) -> Result<Fabric, Refusal> {
+    let length = bytes.len();
+    let in_range = (8..=MOST_BYTES).contains(&length);
+    ask(1, 0, in_range && length.is_multiple_of(4))?;
+    let words = to_le_words(bytes);
+    ask(2, 0, words[0] == start_word(words.len()))?;
+    let mut reader = Reader::new();
+    let mut place = 1;
+    let mut last = START;
+    loop {
+        let record = record_at(&words, place, last).ok_or(Refusal::new(3, place))?;
+        last = record[0] >> 28;
+        match last {
+            EDGE => reader.edge(place, record)?,
+            LINK => reader.link(place, record)?,
+            ENTRY => reader.entry(place, record)?,
+            _ => return Ok(reader.fabric),
+        }
+        place += record.len();
+    }
+}
+
+/// Writes a file; for a fabric that `read` gave, the very bytes it was read
+/// from. Fields wider than their bits in the file lose their upper bits.
+pub fn write(fabric: &Fabric) -> Vec<u8> {
+    let mut words = vec![0];
+    for edge in &fabric.edges {
+        words.extend(edge_record(edge));
+    }
+    for link in &fabric.links {
+        words.push(link_record(link));
+    }
+    for entry in &fabric.entries {
+        words.extend(entry_record(entry));
+    }
+    words.push(END << 28);
+    words[0] = start_word(words.len());
+    to_le_bytes(&words)
+}
+
+/// Bytes as little-endian words; up to three bytes over are left out.
+pub fn to_le_words(bytes: &[u8]) -> Vec<u32> {
+    bytes
+        .chunks_exact(4)
+        .map(|word| u32::from_le_bytes([word[0], word[1], word[2], word[3]]))
+        .collect()
+}
+
+/// Words as little-endian bytes.
+pub fn to_le_bytes(words: &[u32]) -> Vec<u8> {
+    words.iter().flat_map(|word| word.to_le_bytes()).collect()
+}
+
+/// Question 3: "Is there a word here, its kind 2 to 5 and no smaller than the
+/// last record's, the record inside the file, its zero bits zero, and an end
+/// only as the last word?"
+fn record_at(words: &[u32], place: usize, last: u32) -> Option<&[u32]> {
+    let first = *words.get(place)?;
+    let kind = first >> 28;
+    let length = match kind {
+        EDGE => EDGE_WORDS,
+        LINK => LINK_WORDS,
+        ENTRY => ENTRY_WORDS,
+        END => 1,
+        _ => return None,
+    };
+    let record = words.get(place..place + length)?;
+    let zero_bits = match kind {
+        LINK => first & 0x0f00_0000,
+        ENTRY => record[1] & 0xffff_f000,
+        END => first & 0x0fff_ffff,
+        _ => 0,
+    };
+    let misplaced_end = kind == END && place + 1 != words.len();
+    (kind >= last && zero_bits == 0 && !misplaced_end).then_some(record)
+}
+
+/// The records read so far, and by port what questions 6 and 7 ask about.
+struct Reader {
+    fabric: Fabric,
+    is_edge: [bool; PORTS],
+    is_link_end: [bool; PORTS],
+    entries_at: [u8; PORTS],
+}
+
+/// Questions 4 to 7 of one record.
+impl Reader {
+    fn new() -> Reader {
+        Reader {
+            fabric: Fabric::default(),
+            is_edge: [false; PORTS],
+            is_link_end: [false; PORTS],
+            entries_at: [0; PORTS],
+        }
+    }
+
+    fn edge(&mut self, place: usize, record: &[u32]) -> Result<(), Refusal> {
+        let edge = Edge {
+            group: (record[0] >> 12) as u16,
+            port: low_port(record[0]),
+            admitted: set_of(&record[1..9]),
+        };
+        let edges = &mut self.fabric.edges;
+        let rising = edges.last().is_none_or(|last| last.port < edge.port);
+        ask(4, place, edge.port != 0 && rising)?;
+        ask(5, place, edge.admitted.is_proper())?;
+        ask(7, place, edges.len() < MOST_EDGES)?;
+        self.is_edge[usize::from(edge.port)] = true;
+        edges.push(edge);
+        Ok(())
+    }
+
+    fn link(&mut self, place: usize, record: &[u32]) -> Result<(), Refusal> {
+        let link = Link {
+            from: low_port(record[0] >> 12),
+            to: low_port(record[0]),
+        };
+        let (from, to) = (usize::from(link.from), usize::from(link.to));
+        let links = &mut self.fabric.links;
+        let rising = links.last().is_none_or(|last| last.from < link.from);
+        ask(4, place, from != 0 && to != 0 && rising && from != to)?;
+        let at_edge = self.is_edge[from] || self.is_edge[to];
+        ask(6, place, !at_edge && !self.is_link_end[to])?;
+        ask(7, place, links.len() < MOST_LINKS)?;
+        self.is_link_end[to] = true;
+        links.push(link);
+        Ok(())
+    }
+
+    fn entry(&mut self, place: usize, record: &[u32]) -> Result<(), Refusal> {
+        let rewrite = set_of(&record[10..18]);
+        let entry = Entry {
+            priority: (record[0] >> 12) as u16,
+            in_port: low_port(record[0]),
+            out_port: low_port(record[1]),
+            matching: set_of(&record[2..10]),
+            rewrite: Rewrite {
+                mask: rewrite.care,
+                value: rewrite.value,
+            },
+        };
+        let entries = &mut self.fabric.entries;
+        let entries_here = &mut self.entries_at[usize::from(entry.in_port)];
+        let here = usize::from(*entries_here);
+        let ports_differ = entry.in_port != entry.out_port;
+        ask(4, place, entry.in_port != 0 && ports_differ)?;
+        let proper = entry.matching.is_proper() && entry.rewrite.is_proper();
+        ask(5, place, proper)?;
+        let within = entries.len() < MOST_ENTRIES && here < MOST_ENTRIES_PER_IN_PORT;
+        ask(7, place, within)?;
+        *entries_here += 1;
+        entries.push(entry);
+        Ok(())
+    }
+}
+
+/// The port in bits 11..0.
+fn low_port(word: u32) -> u16 {
+    (word & 0xfff) as u16
+}
+
+/// Eight words as a set: care, then value.
+fn set_of(words: &[u32]) -> Set {
+    Set {
+        care: from_words([words[0], words[1], words[2], words[3]]),
+        value: from_words([words[4], words[5], words[6], words[7]]),
+    }
+}
+
+fn edge_record(edge: &Edge) -> Vec<u32> {
+    let first = EDGE << 28 | u32::from(edge.group) << 12 | port_bits(edge.port);
+    let mut record = vec![first];
+    record.extend(to_words(edge.admitted.care));
+    record.extend(to_words(edge.admitted.value));
+    record
+}
+
+fn link_record(link: &Link) -> u32 {
+    LINK << 28 | port_bits(link.from) << 12 | port_bits(link.to)
+}
+
+fn entry_record(entry: &Entry) -> Vec<u32> {
+    let first = ENTRY << 28 | u32::from(entry.priority) << 12 | port_bits(entry.in_port);
+    let mut record = vec![first, port_bits(entry.out_port)];
+    record.extend(to_words(entry.matching.care));
+    record.extend(to_words(entry.matching.value));
+    record.extend(to_words(entry.rewrite.mask));
+    record.extend(to_words(entry.rewrite.value));
+    record
+}
+
+fn port_bits(port: u16) -> u32 {
+    u32::from(port) & 0xfff
+}

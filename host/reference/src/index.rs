@@ -1,0 +1,138 @@
+//! Plain indexes for the back-trace, made once a call: entries by out-port,
+//! beaters by entry, what stands at an entry's in-port.
+
+use std::iter::successors;
+
+use crate::fabric::{Fabric, PORTS};
+use crate::forward::beats;
+use crate::set::Set;
+
+/// What stands at a port that packets come in by.
+#[derive(Clone, Copy, Debug, PartialEq, Eq)]
+pub enum Origin {
+    /// Neither an edge nor a link's end.
+    Nothing,
+    /// The edge with this index.
+    Edge(u16),
+    /// The end of a link that comes from this port.
+    Link(u16),
+}
+
+/// The indexes of one accepted fabric.
+#[derive(Debug)]
+pub struct Index<'f> {
+    fabric: &'f Fabric,
+    by_out_port: Chains,
+    beaters: Vec<u16>,
+    /// Entry `i` is beaten by `beaters[starts[i]..starts[i + 1]]`.
+    starts: Vec<usize>,
+    origins: Vec<Origin>,
+    matches: Vec<Set>,
+}
+
+impl<'f> Index<'f> {
+    pub fn new(fabric: &'f Fabric) -> Index<'f> {
+        let entries = &fabric.entries;
+        let (beaters, starts) = beaters(fabric);
+        Index {
+            fabric,
+            by_out_port: Chains::new(entries.iter().map(|entry| entry.out_port)),
+            beaters,
+            starts,
+            origins: origins(fabric),
+            matches: entries.iter().map(|entry| entry.matching).collect(),
+        }
+    }
+
+    pub fn fabric(&self) -> &'f Fabric {
+        self.fabric
+    }
+
+    /// The entries with this out-port, in file order.
+    pub fn with_out_port(&self, port: u16) -> impl Iterator<Item = u16> + '_ {
+        self.by_out_port.at(port)
+    }
+
+    /// The entries that beat this one, in file order.
+    pub fn beaters(&self, entry: u16) -> &[u16] {
+        let entry = usize::from(entry);
+        &self.beaters[self.starts[entry]..self.starts[entry + 1]]
+    }
+
+    /// What stands at this entry's in-port.
+    pub fn origin(&self, entry: u16) -> Origin {
+        self.origins[usize::from(entry)]
+    }
+
+    /// This entry's match; all of them lie close together.
+    pub fn matching(&self, entry: u16) -> &Set {
+        &self.matches[usize::from(entry)]
+    }
+}
+
+/// The entries with one port or another: by port the first of them, by entry
+/// the next one with its port.
+#[derive(Debug)]
+struct Chains {
+    first: Vec<Option<u16>>,
+    next: Vec<Option<u16>>,
+}
+
+impl Chains {
+    /// From the port of each entry.
+    fn new(ports: impl DoubleEndedIterator<Item = u16> + ExactSizeIterator) -> Chains {
+        let mut chains = Chains {
+            first: vec![None; PORTS],
+            next: vec![None; ports.len()],
+        };
+        // From the last to the first, so that each chain is in file order.
+        for (number, port) in ports.enumerate().rev() {
+            if let Some(first) = chains.first.get_mut(usize::from(port)) {
+                chains.next[number] = first.replace(number as u16);
+            }
+        }
+        chains
+    }
+
+    fn at(&self, port: u16) -> impl Iterator<Item = u16> + '_ {
+        let first = self.first.get(usize::from(port)).copied().flatten();
+        successors(first, |&entry| self.next[usize::from(entry)])
+    }
+}
+
+/// All entries' beaters, and where each entry's start.
+fn beaters(fabric: &Fabric) -> (Vec<u16>, Vec<usize>) {
+    let in_ports = fabric.entries.iter().map(|entry| entry.in_port);
+    let by_in_port = Chains::new(in_ports.clone());
+    let (mut beaters, mut starts) = (Vec::new(), vec![0]);
+    for (number, in_port) in in_ports.enumerate() {
+        for other in by_in_port.at(in_port) {
+            if beats(fabric, usize::from(other), number) {
+                beaters.push(other);
+            }
+        }
+        starts.push(beaters.len());
+    }
+    (beaters, starts)
+}
+
+/// What stands at each entry's in-port.
+fn origins(fabric: &Fabric) -> Vec<Origin> {
+    let mut at_port = vec![Origin::Nothing; PORTS];
+    let mut put = |port: u16, origin| {
+        if let Some(place) = at_port.get_mut(usize::from(port)) {
+            *place = origin;
+        }
+    };
+    for link in &fabric.links {
+        put(link.to, Origin::Link(link.from));
+    }
+    for (number, edge) in fabric.edges.iter().enumerate() {
+        put(edge.port, Origin::Edge(number as u16));
+    }
+    let in_ports = fabric.entries.iter().map(|entry| entry.in_port);
+    in_ports
+        .map(|port| at_port.get(usize::from(port)).copied())
+        .map(|origin| origin.unwrap_or(Origin::Nothing))
+        .collect()
+}

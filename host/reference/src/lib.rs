@@ -1,0 +1,27 @@
+//! Document 01 once more, made for tests. It shares nothing with the product:
+//! not its language, not its code, not its shape. Where the two differ, one of
+//! them is wrong.
+//!
+//! The yardstick is `set`, `fabric`, `file`, `forward`, `index`, `trace`,
+//! `calls` and `query`, in this order. `brute` and `ternary` are two naive
+//! checks on it, and `random` makes fabrics, queries and damaged files.
+
+#![forbid(unsafe_code)]
+
+pub mod brute;
+pub mod calls;
+pub mod fabric;
+pub mod file;
+pub mod forward;
+pub mod index;
+pub mod query;
+pub mod random;
+pub mod refusal;
+pub mod set;
+pub mod ternary;
+pub mod trace;
+
+pub use calls::{list, run, verdict, Query};
+pub use fabric::{Edge, Entry, Fabric, Link};
+pub use refusal::Refusal;
+pub use set::{Header, Rewrite, Set};

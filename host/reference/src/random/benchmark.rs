@@ -1,0 +1,95 @@
+//! Three fabrics to measure time with. In each of them the target is isolated,
+//! so that a verdict has to make the whole trace.
+
+mod campus;
+mod deep_ring;
+
+pub use campus::campus;
+pub use deep_ring::deep_ring;
+
+use crate::calls::Query;
+use crate::fabric::{Edge, Entry, Fabric};
+use crate::set::{from_words, Rewrite, Set};
+
+/// A fabric and what to ask of it.
+#[derive(Clone, Debug)]
+pub struct Benchmark {
+    pub name: &'static str,
+    pub fabric: Fabric,
+    pub query: Query,
+}
+
+impl Benchmark {
+    fn all_wild(name: &'static str, mut fabric: Fabric, target: u16) -> Benchmark {
+        super::parts::tidy(&mut fabric);
+        let query = Query {
+            port: u32::from(target),
+            limit: 16,
+            budget: u32::MAX,
+            care: [0; 4],
+            value: [0; 4],
+        };
+        Benchmark {
+            name,
+            fabric,
+            query,
+        }
+    }
+}
+
+fn set(care: [u32; 4], value: [u32; 4]) -> Set {
+    Set {
+        care: from_words(care),
+        value: from_words(value),
+    }
+}
+
+fn rewrite(mask: [u32; 4], value: [u32; 4]) -> Rewrite {
+    Rewrite {
+        mask: from_words(mask),
+        value: from_words(value),
+    }
+}
+
+fn deny(priority: u16, in_port: u16, matching: Set) -> Entry {
+    Entry {
+        priority,
+        in_port,
+        out_port: 0,
+        matching,
+        rewrite: Rewrite::NONE,
+    }
+}
+
+/// Two edges of one group that admit every header.
+fn one_group(start: u16, target: u16) -> Fabric {
+    let edges = [start, target].map(|port| Edge {
+        group: 1,
+        port,
+        admitted: Set::ALL_WILD,
+    });
+    Fabric {
+        edges: edges.to_vec(),
+        ..Fabric::default()
+    }
+}
+
+/// An all-wild allow under twenty denies of two bits each: every deny doubles
+/// the parts, which makes 2^20 units and as many finds.
+pub fn twenty_denies() -> Benchmark {
+    let (start, target) = (1, 2);
+    let mut fabric = one_group(start, target);
+    for number in 0..20 {
+        let two_bits = 0b1001 << (6 * number);
+        let matching = Set {
+            care: two_bits,
+            value: two_bits,
+        };
+        fabric.entries.push(deny(2, start, matching));
+    }
+    fabric.entries.push(Entry {
+        out_port: target,
+        ..deny(1, start, Set::ALL_WILD)
+    });
+    Benchmark::all_wild("twenty denies", fabric, target)
+}

@@ -1,0 +1,107 @@
+//! A routed campus.
+
+use super::{deny, rewrite, set, Benchmark};
+use crate::fabric::{Edge, Entry, Fabric, Link};
+use crate::set::Rewrite;
+
+const BUILDINGS: u16 = 6;
+const TENANTS: u16 = 8;
+const CORES: u16 = 2;
+
+/// A routed campus of 504 entries: in each of six buildings a switch with an
+/// edge for each of eight tenants, and two core switches. A tenant's edges send
+/// to each other, tagged with the tenant's dl_vlan; Telnet and SMB are denied
+/// where they come in, one host in the core.
+pub fn campus() -> Benchmark {
+    let mut fabric = Fabric::default();
+    for building in 0..BUILDINGS {
+        for tenant in 0..TENANTS {
+            add_tenant(&mut fabric, building, tenant);
+        }
+        for core in 0..CORES {
+            add_uplink(&mut fabric, building, core);
+            add_core_routes(&mut fabric, building, core);
+        }
+    }
+    Benchmark::all_wild("campus", fabric, tenant_port(0, 0))
+}
+
+fn tenant_port(building: u16, tenant: u16) -> u16 {
+    1 + building * TENANTS + tenant
+}
+
+fn uplink_port(building: u16, core: u16) -> u16 {
+    100 + building * CORES + core
+}
+
+fn core_port(building: u16, core: u16) -> u16 {
+    200 + building * CORES + core
+}
+
+/// 10.building.tenant.0
+fn network(building: u16, tenant: u16) -> u32 {
+    10 << 24 | u32::from(building) << 16 | u32::from(tenant) << 8
+}
+
+fn tag(tenant: u16) -> u32 {
+    u32::from(tenant + 1) << 16
+}
+
+fn add_tenant(fabric: &mut Fabric, building: u16, tenant: u16) {
+    let port = tenant_port(building, tenant);
+    let own = network(building, tenant);
+    fabric.edges.push(Edge {
+        group: tenant,
+        port,
+        admitted: set([0xffff_ff00, 0, 0, 0], [own, 0, 0, 0]),
+    });
+    for service in [23, 445] {
+        let matching = set([0, 0, 0xffff, 0xff], [0, 0, service, 6]);
+        fabric.entries.push(deny(30, port, matching));
+    }
+    for other in (0..BUILDINGS).filter(|&other| other != building) {
+        let to = network(other, tenant);
+        fabric.entries.push(Entry {
+            priority: 20,
+            in_port: port,
+            out_port: uplink_port(building, other % CORES),
+            matching: set([0xffff_ff00, 0xffff_ff00, 0, 0], [own, to, 0, 0]),
+            rewrite: rewrite([0, 0, 0, 0xffff_0000], [0, 0, 0, tag(tenant)]),
+        });
+    }
+}
+
+/// The links between a building and a core, and what the building does with
+/// packets from there.
+fn add_uplink(fabric: &mut Fabric, building: u16, core: u16) {
+    let (up, down) = (uplink_port(building, core), core_port(building, core));
+    fabric.links.push(Link { from: up, to: down });
+    fabric.links.push(Link { from: down, to: up });
+    for tenant in 0..TENANTS {
+        let to = network(building, tenant);
+        let care = [0, 0xffff_ff00, 0, 0xffff_0000];
+        fabric.entries.push(Entry {
+            priority: 24,
+            in_port: up,
+            out_port: tenant_port(building, tenant),
+            matching: set(care, [0, to, 0, tag(tenant)]),
+            rewrite: rewrite([0, 0, 0, 0xffff_0000], [0; 4]),
+        });
+    }
+}
+
+fn add_core_routes(fabric: &mut Fabric, building: u16, core: u16) {
+    let in_port = core_port(building, core);
+    let host = network(2, 0) | 77;
+    let matching = set([u32::MAX, 0, 0, 0], [host, 0, 0, 0]);
+    fabric.entries.push(deny(32, in_port, matching));
+    for other in (0..BUILDINGS).filter(|&other| other != building) {
+        fabric.entries.push(Entry {
+            priority: 16,
+            in_port,
+            out_port: core_port(other, core),
+            matching: set([0, 0xffff_0000, 0, 0], [0, network(other, 0), 0, 0]),
+            rewrite: Rewrite::NONE,
+        });
+    }
+}

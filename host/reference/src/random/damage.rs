@@ -1,0 +1,231 @@
+//! Damaging an accepted file, in each way that one of questions 1 to 7 can
+//! refuse, or at random.
+
+mod chance;
+mod layout;
+mod records;
+
+use super::parts::{some_ports, tidy};
+use super::Rng;
+use crate::fabric::{Edge, Entry, Fabric, Link, PORTS};
+use crate::file::read;
+use crate::refusal::Refusal;
+use crate::set::{Rewrite, Set};
+
+use chance::{flipped, record_changed, words_changed};
+use layout::{misplaced_end, stray_zero_bit, wrong_kind, wrong_length, wrong_start, File};
+use records::{
+    link_misplaced, too_many_edges_or_links, too_many_entries, value_outside, wrong_edge_port,
+    wrong_entry_port, wrong_link_port,
+};
+
+/// A way to damage a file, named for the clause that it breaks.
+#[derive(Clone, Copy, Debug, PartialEq, Eq)]
+pub enum Damage {
+    // Question 1.
+    TooShort,
+    NotWholeWords,
+    TooLong,
+    // Question 2.
+    Truncated,
+    Padded,
+    WrongCount,
+    WrongVersion,
+    NoStart,
+    // Question 3.
+    NoWordHere,
+    UnknownKind,
+    SmallerKind,
+    RecordNotInside,
+    LinkZeroBits,
+    EntryZeroBits,
+    EndZeroBits,
+    EndInTheMiddle,
+    WordsAfterEnd,
+    // Question 4.
+    EdgePortZero,
+    LinkFromZero,
+    LinkToZero,
+    EntryInPortZero,
+    EdgesFalling,
+    EdgesEqual,
+    LinksFalling,
+    LinksEqual,
+    LinkToItself,
+    EntryToItself,
+    // Question 5.
+    EdgeValueOutside,
+    MatchValueOutside,
+    RewriteValueOutside,
+    // Question 6.
+    LinkFromEdge,
+    LinkToEdge,
+    LinksWithOneEnd,
+    // Question 7.
+    EdgeTooMany,
+    LinkTooMany,
+    EntryTooMany,
+    EntryTooManyAtInPort,
+    // Any question or none.
+    FlippedBit,
+    FlippedByte,
+    OtherWord,
+    SwappedWords,
+    RecordTwice,
+    RecordGone,
+}
+
+impl Damage {
+    pub const ALL: [Damage; 43] = {
+        use Damage::*;
+        [
+            TooShort,
+            NotWholeWords,
+            TooLong,
+            Truncated,
+            Padded,
+            WrongCount,
+            WrongVersion,
+            NoStart,
+            NoWordHere,
+            UnknownKind,
+            SmallerKind,
+            RecordNotInside,
+            LinkZeroBits,
+            EntryZeroBits,
+            EndZeroBits,
+            EndInTheMiddle,
+            WordsAfterEnd,
+            EdgePortZero,
+            LinkFromZero,
+            LinkToZero,
+            EntryInPortZero,
+            EdgesFalling,
+            EdgesEqual,
+            LinksFalling,
+            LinksEqual,
+            LinkToItself,
+            EntryToItself,
+            EdgeValueOutside,
+            MatchValueOutside,
+            RewriteValueOutside,
+            LinkFromEdge,
+            LinkToEdge,
+            LinksWithOneEnd,
+            EdgeTooMany,
+            LinkTooMany,
+            EntryTooMany,
+            EntryTooManyAtInPort,
+            FlippedBit,
+            FlippedByte,
+            OtherWord,
+            SwappedWords,
+            RecordTwice,
+            RecordGone,
+        ]
+    };
+}
+
+/// A damaged file and, unless the damage was at random, what refuses it.
+#[derive(Clone, Debug)]
+pub struct Damaged {
+    pub bytes: Vec<u8>,
+    pub refusal: Option<Refusal>,
+}
+
+/// The bytes of an accepted file, damaged in some way.
+pub fn damage(bytes: &[u8], rng: &mut Rng) -> Vec<u8> {
+    let how = rng.one_of(Damage::ALL);
+    inflict(how, bytes, rng).bytes
+}
+
+/// The bytes of an accepted file, damaged in this way. Where the damage needs
+/// records that aren't there, they are added first. A file that isn't accepted
+/// only has a bit flipped.
+pub fn inflict(how: Damage, bytes: &[u8], rng: &mut Rng) -> Damaged {
+    let one_bit = 1 << rng.below(8);
+    let some_bits = rng.between(1, 0xff) as u8;
+    let Ok(mut fabric) = read(bytes) else {
+        return flipped(bytes, one_bit, rng);
+    };
+    furnish(&mut fabric, rng);
+    let file = File::new(&fabric);
+    use Damage::*;
+    match how {
+        TooShort | NotWholeWords | TooLong => wrong_length(how, file, rng),
+        Truncated | Padded | WrongCount | WrongVersion | NoStart => wrong_start(how, file, rng),
+        NoWordHere | UnknownKind | SmallerKind | RecordNotInside => wrong_kind(how, file, rng),
+        LinkZeroBits | EntryZeroBits | EndZeroBits => stray_zero_bit(how, file, rng),
+        EndInTheMiddle | WordsAfterEnd => misplaced_end(how, file, rng),
+        EdgePortZero | EdgesFalling | EdgesEqual => wrong_edge_port(how, fabric, rng),
+        LinkFromZero | LinkToZero | LinksFalling | LinksEqual | LinkToItself => {
+            wrong_link_port(how, fabric, rng)
+        }
+        EntryInPortZero | EntryToItself => wrong_entry_port(how, fabric, rng),
+        EdgeValueOutside | MatchValueOutside | RewriteValueOutside => {
+            value_outside(how, fabric, rng)
+        }
+        LinkFromEdge | LinkToEdge | LinksWithOneEnd => link_misplaced(how, fabric, rng),
+        EdgeTooMany | LinkTooMany => too_many_edges_or_links(how, fabric, rng),
+        EntryTooMany | EntryTooManyAtInPort => too_many_entries(how, fabric, rng),
+        FlippedBit => flipped(bytes, one_bit, rng),
+        FlippedByte => flipped(bytes, some_bits, rng),
+        OtherWord | SwappedWords => words_changed(how, bytes, rng),
+        RecordTwice | RecordGone => record_changed(how, file, rng),
+    }
+}
+
+/// At least two edges, two links and an entry.
+fn furnish(fabric: &mut Fabric, rng: &mut Rng) {
+    let mut ports = unused_ports(fabric, rng).into_iter();
+    let mut port = || ports.next().unwrap_or(1);
+    while fabric.edges.len() < 2 {
+        fabric.edges.push(plain_edge(port()));
+    }
+    while fabric.links.len() < 2 {
+        let (from, to) = (port(), port());
+        fabric.links.push(Link { from, to });
+    }
+    if fabric.entries.is_empty() {
+        fabric.entries.push(plain_entry(port()));
+    }
+    tidy(fabric);
+}
+
+/// The ports that no edge, link or entry has, in random order.
+fn unused_ports(fabric: &Fabric, rng: &mut Rng) -> Vec<u16> {
+    let mut used = vec![false; PORTS];
+    let edges = fabric.edges.iter().map(|edge| edge.port);
+    let from = fabric.links.iter().map(|link| link.from);
+    let to = fabric.links.iter().map(|link| link.to);
+    let in_ports = fabric.entries.iter().map(|entry| entry.in_port);
+    for port in edges.chain(from).chain(to).chain(in_ports) {
+        used[usize::from(port)] = true;
+    }
+    let mut ports = some_ports(rng, PORTS);
+    ports.retain(|&port| !used[usize::from(port)]);
+    ports
+}
+
+fn plain_edge(port: u16) -> Edge {
+    Edge {
+        group: 1,
+        port,
+        admitted: Set::ALL_WILD,
+    }
+}
+
+fn plain_entry(in_port: u16) -> Entry {
+    Entry {
+        priority: 1,
+        in_port,
+        out_port: 0,
+        matching: Set::ALL_WILD,
+        rewrite: Rewrite::NONE,
+    }
+}
+
+fn refused(bytes: Vec<u8>, number: u8, place: usize) -> Damaged {
+    let refusal = Some(Refusal::new(number, place));
+    Damaged { bytes, refusal }
+}

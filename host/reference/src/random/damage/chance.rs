@@ -1,0 +1,39 @@
+//! Damage at random: it may break any question or none.
+
+use super::layout::File;
+use super::{Damage, Damaged};
+use crate::file::{to_le_bytes, to_le_words};
+use crate::random::Rng;
+
+fn at_random(bytes: Vec<u8>) -> Damaged {
+    let refusal = None;
+    Damaged { bytes, refusal }
+}
+
+pub(super) fn flipped(bytes: &[u8], flips: u8, rng: &mut Rng) -> Damaged {
+    let mut bytes = bytes.to_vec();
+    let place = rng.below(bytes.len());
+    if let Some(byte) = bytes.get_mut(place) {
+        *byte ^= flips;
+    }
+    at_random(bytes)
+}
+
+pub(super) fn words_changed(how: Damage, bytes: &[u8], rng: &mut Rng) -> Damaged {
+    let mut words = to_le_words(bytes);
+    let (one, other) = (rng.below(words.len()), rng.below(words.len()));
+    match how {
+        Damage::SwappedWords => words.swap(one, other),
+        _ => words[one] = rng.draw() as u32,
+    }
+    at_random(to_le_bytes(&words))
+}
+
+pub(super) fn record_changed(how: Damage, mut file: File, rng: &mut Rng) -> Damaged {
+    let record = rng.between(1, file.end());
+    match how {
+        Damage::RecordTwice => file.records.insert(record, file.records[record].clone()),
+        _ => drop(file.records.remove(record)),
+    }
+    at_random(file.counted())
+}

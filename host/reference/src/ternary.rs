@@ -1,0 +1,235 @@
+//! The back-trace once more, slow, with header sets as strings of 0, 1 and x
+//! and without indexes. It writes down every unit and find in turn, so one
+//! telling has the answer for every budget.
+
+use crate::calls::Query;
+use crate::fabric::{Edge, Fabric};
+use crate::set::Set;
+
+/// Byte `i` is a `0`, `1` or `x` for bit `i` in document 01's order, from word 0
+/// bit 31.
+type Ternary = [u8; 128];
+
+/// What happens in a back-trace.
+#[derive(Clone, Debug, PartialEq, Eq)]
+pub enum Event {
+    Unit,
+    Find {
+        edge: usize,
+        entries: Vec<usize>,
+        set: Ternary,
+    },
+}
+
+/// The events of the whole back-trace; none if there are more than `most`.
+pub fn events(fabric: &Fabric, query: &Query, most: usize) -> Option<Vec<Event>> {
+    let mut teller = Teller {
+        fabric,
+        most,
+        path: Vec::new(),
+        events: Vec::new(),
+    };
+    teller.stop(query.port, &from_set(&query.asked()), query.limit)?;
+    Some(teller.events)
+}
+
+/// The verdict's words by these events; none if the budget doesn't do.
+pub fn verdict(fabric: &Fabric, query: &Query, events: &[Event]) -> Option<Vec<u32>> {
+    let target = fabric
+        .edges
+        .iter()
+        .find(|edge| u32::from(edge.port) == query.port)?;
+    let mut words = vec![0; 24];
+    for event in events {
+        match event {
+            Event::Unit if words[1] == query.budget => return None,
+            Event::Unit => words[1] += 1,
+            Event::Find { edge, entries, set } => {
+                let edge = &fabric.edges[*edge];
+                if let Some(header) = foreign(edge, target, set) {
+                    words[0] = 1;
+                    words[2] = u32::from(edge.port);
+                    words[3] = entries.len() as u32;
+                    words[4..8].copy_from_slice(&words_where(&header, b'1'));
+                    for (word, &entry) in words[8..].iter_mut().zip(entries) {
+                        *word = entry as u32;
+                    }
+                    return Some(words);
+                }
+            }
+        }
+    }
+    Some(words)
+}
+
+/// The list's words by these events; none if the budget doesn't do.
+pub fn list(fabric: &Fabric, query: &Query, events: &[Event]) -> Option<Vec<u32>> {
+    let units = events.iter().filter(|event| **event == Event::Unit).count();
+    if units > query.budget as usize {
+        return None;
+    }
+    let mut words = Vec::new();
+    for event in events {
+        if let Event::Find { edge, entries, set } = event {
+            let port = u32::from(fabric.edges[*edge].port);
+            words.push(0x6000_0000 + 4096 * entries.len() as u32 + port);
+            words.extend(entries.iter().map(|&entry| 0x7000_0000 + entry as u32));
+            let (zeros, ones) = (words_where(set, b'0'), words_where(set, b'1'));
+            words.extend([0, 1, 2, 3].map(|word| zeros[word] + ones[word]));
+            words.extend(ones);
+        }
+    }
+    Some(words)
+}
+
+struct Teller<'f> {
+    fabric: &'f Fabric,
+    most: usize,
+    /// The entries in travelling order.
+    path: Vec<usize>,
+    events: Vec<Event>,
+}
+
+impl Teller<'_> {
+    fn tell(&mut self, event: Event) -> Option<()> {
+        self.events.push(event);
+        (self.events.len() <= self.most).then_some(())
+    }
+
+    fn stop(&mut self, out_port: u32, wanted: &Ternary, left: u32) -> Option<()> {
+        for (number, entry) in self.fabric.entries.iter().enumerate() {
+            if u32::from(entry.out_port) != out_port {
+                continue;
+            }
+            self.tell(Event::Unit)?;
+            let written = from_set(&Set {
+                care: entry.rewrite.mask,
+                value: entry.rewrite.value,
+            });
+            let undone = undo(wanted, &written);
+            if let Some(part) = undone.and_then(|set| both(&set, &from_set(&entry.matching))) {
+                self.path.insert(0, number);
+                self.carve(&part, &self.beaters(number), left)?;
+                self.path.remove(0);
+            }
+        }
+        Some(())
+    }
+
+    fn carve(&mut self, part: &Ternary, beaters: &[Ternary], left: u32) -> Option<()> {
+        let Some((beater, others)) = beaters.split_first() else {
+            return self.survived(part, left);
+        };
+        self.tell(Event::Unit)?;
+        for piece in carved(part, beater) {
+            self.carve(&piece, others, left)?;
+        }
+        Some(())
+    }
+
+    fn survived(&mut self, part: &Ternary, left: u32) -> Option<()> {
+        let in_port = self.fabric.entries[self.path[0]].in_port;
+        let edges = &self.fabric.edges;
+        if let Some(edge) = edges.iter().position(|edge| edge.port == in_port) {
+            return self.tell(Event::Find {
+                edge,
+                entries: self.path.clone(),
+                set: *part,
+            });
+        }
+        match self.fabric.links.iter().find(|link| link.to == in_port) {
+            Some(link) if left > 1 => self.stop(u32::from(link.from), part, left - 1),
+            _ => Some(()),
+        }
+    }
+
+    /// The matches of the entries that beat this one, in file order.
+    fn beaters(&self, number: usize) -> Vec<Ternary> {
+        let entries = &self.fabric.entries;
+        let beaten = &entries[number];
+        let mut beaters = Vec::new();
+        for (other, entry) in entries.iter().enumerate() {
+            let higher = entry.priority > beaten.priority;
+            let earlier = entry.priority == beaten.priority && other < number;
+            if entry.in_port == beaten.in_port && (higher || earlier) {
+                beaters.push(from_set(&entry.matching));
+            }
+        }
+        beaters
+    }
+}
+
+fn from_set(set: &Set) -> Ternary {
+    let mut ternary = [b'x'; 128];
+    for (i, trit) in ternary.iter_mut().enumerate() {
+        let bit = 127 - i;
+        if set.care >> bit & 1 == 1 {
+            *trit = if set.value >> bit & 1 == 1 {
+                b'1'
+            } else {
+                b'0'
+            };
+        }
+    }
+    ternary
+}
+
+/// Four words with a 1 wherever this byte stands.
+fn words_where(ternary: &Ternary, wanted: u8) -> [u32; 4] {
+    let mut words = [0; 4];
+    for (i, &trit) in ternary.iter().enumerate() {
+        words[i / 32] = words[i / 32] * 2 + u32::from(trit == wanted);
+    }
+    words
+}
+
+/// Whether some bit is 0 in one and 1 in the other.
+fn apart(one: &Ternary, other: &Ternary) -> bool {
+    let mut bits = one.iter().zip(other);
+    bits.any(|(&a, &b)| a != b && a != b'x' && b != b'x')
+}
+
+fn both(one: &Ternary, other: &Ternary) -> Option<Ternary> {
+    let mut meet = *one;
+    for (trit, &b) in meet.iter_mut().zip(other) {
+        if *trit == b'x' {
+            *trit = b;
+        }
+    }
+    (!apart(one, other)).then_some(meet)
+}
+
+fn undo(wanted: &Ternary, written: &Ternary) -> Option<Ternary> {
+    let mut before = *wanted;
+    for (trit, &b) in before.iter_mut().zip(written) {
+        if b != b'x' {
+            *trit = b'x';
+        }
+    }
+    (!apart(wanted, written)).then_some(before)
+}
+
+fn carved(part: &Ternary, by: &Ternary) -> Vec<Ternary> {
+    if apart(part, by) {
+        return vec![*part];
+    }
+    let mut parts = Vec::new();
+    let mut stem = *part;
+    for i in 0..128 {
+        if stem[i] == b'x' && by[i] != b'x' {
+            let mut opposite = stem;
+            opposite[i] = if by[i] == b'0' { b'1' } else { b'0' };
+            parts.push(opposite);
+            stem[i] = by[i];
+        }
+    }
+    parts
+}
+
+/// The lowest foreign header of a find's first foreign part.
+fn foreign(edge: &Edge, target: &Edge, set: &Ternary) -> Option<Ternary> {
+    if edge.group != target.group {
+        return Some(*set);
+    }
+    carved(set, &from_set(&edge.admitted)).first().copied()
+}

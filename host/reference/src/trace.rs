@@ -1,0 +1,152 @@
+//! The back-trace and its count: document 01, "The back-trace and its count".
+
+use std::ops::ControlFlow;
+
+use crate::index::{Index, Origin};
+use crate::set::Set;
+
+/// Question 9's upper limit.
+pub const MOST_HOPS: usize = 16;
+
+/// A part that came back to an edge port.
+#[derive(Clone, Copy, Debug, PartialEq, Eq)]
+pub struct Find<'a> {
+    /// The edge's index in the fabric.
+    pub edge: usize,
+    /// The entries in travelling order; one hop each.
+    pub entries: &'a [u16],
+    pub set: Set,
+}
+
+/// How a back-trace ended.
+#[derive(Clone, Copy, Debug, PartialEq, Eq)]
+pub enum Ended {
+    /// No entry or trial is left; the units made.
+    Whole(u32),
+    /// The visitor stopped it; the units made until then.
+    Stopped(u32),
+    /// One more unit was needed than the budget has.
+    Spent,
+}
+
+/// Traces back from the target, an edge port, and shows each find in turn to
+/// the visitor. The limit is 1 to 16; no find has more hops than that.
+pub fn trace(
+    index: &Index,
+    target: u16,
+    limit: usize,
+    asked: Set,
+    budget: u32,
+    visit: impl FnMut(&Find) -> ControlFlow<()>,
+) -> Ended {
+    let limit = limit.min(MOST_HOPS);
+    let mut tracer = Tracer {
+        index,
+        limit,
+        budget,
+        units: 0,
+        path: [0; MOST_HOPS],
+        visit,
+    };
+    let walked = match limit {
+        0 => Ok(()),
+        _ => tracer.stop(target, &asked, limit),
+    };
+    match walked {
+        Ok(()) => Ended::Whole(tracer.units),
+        Err(Halt::Visitor) => Ended::Stopped(tracer.units),
+        Err(Halt::Budget) => Ended::Spent,
+    }
+}
+
+/// Why a back-trace goes no further.
+enum Halt {
+    Visitor,
+    Budget,
+}
+
+struct Tracer<'i, 'f, V> {
+    index: &'i Index<'f>,
+    limit: usize,
+    budget: u32,
+    units: u32,
+    /// The entry of the stop with `left` hops stands at `left - 1`: what is
+    /// filled last, the first entry on the way, stands first.
+    path: [u16; MOST_HOPS],
+    visit: V,
+}
+
+impl<'i, V: FnMut(&Find) -> ControlFlow<()>> Tracer<'i, '_, V> {
+    /// "A unit is made only while fewer than the budget were made."
+    fn unit(&mut self) -> Result<(), Halt> {
+        if self.units >= self.budget {
+            return Err(Halt::Budget);
+        }
+        self.units += 1;
+        Ok(())
+    }
+
+    /// "At a stop, the entries with that out-port are taken up in file order,
+    /// one unit each. Undo the rewrite for T and intersect with the match; if
+    /// empty, next entry. Carve by the entries that beat it, in file order."
+    fn stop(&mut self, out_port: u16, wanted: &Set, left: usize) -> Result<(), Halt> {
+        let index = self.index;
+        for entry in index.with_out_port(out_port) {
+            self.unit()?;
+            let rewrite = &index.fabric().entries[usize::from(entry)].rewrite;
+            let undone = rewrite.undo(wanted);
+            let part = undone.and_then(|set| set.intersect(index.matching(entry)));
+            if let Some(part) = part {
+                self.path[left - 1] = entry;
+                self.carve(entry, index.beaters(entry), &part, left)?;
+            }
+        }
+        Ok(())
+    }
+
+    /// "Trying one part against one beater is one unit, and each part is then
+    /// tried against the next beater, its whole descent before its next
+    /// sibling." A part that doesn't meet the beater goes on alone.
+    fn carve(
+        &mut self,
+        entry: u16,
+        beaters: &'i [u16],
+        part: &Set,
+        left: usize,
+    ) -> Result<(), Halt> {
+        for (tried, &beater) in beaters.iter().enumerate() {
+            self.unit()?;
+            let beater = self.index.matching(beater);
+            if part.meets(beater) {
+                for piece in part.split(beater) {
+                    self.carve(entry, &beaters[tried + 1..], &piece, left)?;
+                }
+                return Ok(());
+            }
+        }
+        self.survived(entry, part, left)
+    }
+
+    /// "If that is an edge port, the part is a find. If a link ends there and
+    /// more than one hop was left, a stop follows at its from-port with one
+    /// hop less."
+    fn survived(&mut self, entry: u16, part: &Set, left: usize) -> Result<(), Halt> {
+        match self.index.origin(entry) {
+            Origin::Edge(edge) => self.find(usize::from(edge), part, left),
+            Origin::Link(from) if left > 1 => self.stop(from, part, left - 1),
+            Origin::Link(_) | Origin::Nothing => Ok(()),
+        }
+    }
+
+    fn find(&mut self, edge: usize, part: &Set, left: usize) -> Result<(), Halt> {
+        let find = Find {
+            edge,
+            entries: &self.path[left - 1..self.limit],
+            set: *part,
+        };
+        match (self.visit)(&find) {
+            ControlFlow::Continue(()) => Ok(()),
+            ControlFlow::Break(()) => Err(Halt::Visitor),
+        }
+    }
+}

@@ -1,0 +1,155 @@
+//! The count, the order of finds, budgets and room, against the slow trace on
+//! strings of 0, 1 and x.
+
+mod common;
+
+use std::cell::Cell;
+
+use common::{answer, edge, entry, fabric, link, tp_dst, wild_query};
+use reference::file::write;
+use reference::random::{any, campus, cases, deep_ring, query, Benchmark};
+use reference::ternary::{self, Event};
+use reference::{list, verdict, Fabric, Query, Set};
+
+/// Beyond this a case is skipped.
+const MOST_EVENTS: usize = 10_000;
+
+/// The verdict and the list for some budgets around their counts.
+fn check_budgets(fabric: &Fabric, asked: &Query, events: &[Event]) {
+    let file = write(fabric);
+    let unbound = Query {
+        budget: u32::MAX,
+        ..*asked
+    };
+    let verdict_units = ternary::verdict(fabric, &unbound, events).unwrap()[1];
+    let all_units = events.iter().filter(|event| **event == Event::Unit).count() as u32;
+    for count in [verdict_units, all_units, 0, asked.budget] {
+        for budget in [count.saturating_sub(1), count, count.saturating_add(1)] {
+            let asked = Query { budget, ..*asked };
+            let expected = ternary::verdict(fabric, &asked, events).ok_or((13, 0));
+            assert_eq!(answer(verdict, &file, 96, &asked), expected);
+            assert_eq!(expected.is_ok(), budget >= verdict_units);
+            let expected = ternary::list(fabric, &asked, events).ok_or((13, 0));
+            assert_eq!(expected.is_ok(), budget >= all_units);
+            check_room(&file, &asked, expected);
+        }
+    }
+}
+
+/// The list with room for all its words, and with a byte less.
+fn check_room(file: &[u8], asked: &Query, expected: Result<Vec<u32>, (u8, u64)>) {
+    let bytes = 4 * expected.as_ref().map_or(0, Vec::len);
+    assert_eq!(answer(list, file, bytes + 5, asked), expected);
+    assert_eq!(answer(list, file, bytes, asked), expected);
+    if bytes > 0 {
+        assert_eq!(answer(list, file, bytes - 1, asked), Err((12, 0)));
+        assert_eq!(answer(list, file, bytes - 4, asked), Err((12, 0)));
+    }
+}
+
+#[test]
+fn every_budget_and_room() {
+    let (compared, all) = (Cell::new(0), Cell::new(0));
+    cases(700_000, 5000, |rng| {
+        all.set(all.get() + 1);
+        let fabric = any(rng);
+        let asked = query(rng, &fabric, 2000);
+        let in_range = asked.asked().is_proper()
+            && (1..=16).contains(&asked.limit)
+            && fabric.edge(asked.port).is_some();
+        if !in_range {
+            assert!(answer(verdict, &write(&fabric), 96, &asked).is_err());
+            return;
+        }
+        if let Some(events) = ternary::events(&fabric, &asked, MOST_EVENTS) {
+            check_budgets(&fabric, &asked, &events);
+            let units = events.contains(&Event::Unit);
+            compared.set(compared.get() + u32::from(units));
+        }
+    });
+    let replayed = all.get() == 1;
+    assert!(replayed || compared.get() * 2 > all.get());
+}
+
+/// The benchmarks that aren't counted by hand.
+#[test]
+fn benchmarks_are_counted() {
+    for Benchmark { fabric, query, .. } in [campus(), deep_ring()] {
+        let events = ternary::events(&fabric, &query, 200_000).unwrap();
+        check_budgets(&fabric, &query, &events);
+    }
+}
+
+/// Worked by hand: the target 2 has two entries. Entry 1, at 11, has beater 0,
+/// which doesn't meet it; it is one unit, a trial, and goes on to 10, where
+/// entry 3 is one unit and comes from edge 1. Entry 2, at the dead end 20, is
+/// one unit and no more.
+#[test]
+fn units_by_hand() {
+    let mut entries = [
+        entry(5, 11, 0),
+        entry(4, 11, 2),
+        entry(4, 20, 2),
+        entry(1, 1, 10),
+    ];
+    entries[0].matching = tp_dst(1);
+    entries[1].matching = tp_dst(2);
+    let made = fabric(&[edge(1, 1), edge(1, 2)], &[link(10, 11)], &entries);
+    let file = write(&made);
+    let units = |limit| answer(verdict, &file, 96, &wild_query(2, limit, 99)).unwrap()[1];
+    assert_eq!(units(2), 4);
+    // With one hop the link isn't followed.
+    assert_eq!(units(1), 3);
+    let listed = answer(list, &file, 48, &wild_query(2, 2, 4)).unwrap();
+    let tp_dst_2 = [0, 0, 0xffff, 0, 0, 0, 2, 0];
+    let expected = [&[0x60002001, 0x70000003, 0x70000001], &tp_dst_2[..]].concat();
+    assert_eq!(listed, expected);
+}
+
+/// A part that a beater covers whole leaves nothing, and its unit counts.
+#[test]
+fn a_covered_part_counts() {
+    let entries = [entry(2, 1, 0), entry(3, 1, 0), entry(1, 1, 2)];
+    let file = write(&fabric(&[edge(1, 1), edge(2, 2)], &[], &entries));
+    let words = answer(verdict, &file, 96, &wild_query(2, 1, 2)).unwrap();
+    assert_eq!(words[..4], [0, 2, 0, 0]);
+    assert_eq!(
+        answer(verdict, &file, 96, &wild_query(2, 1, 1)),
+        Err((13, 0))
+    );
+}
+
+/// In the target's own group, the verdict returns the lowest header of the
+/// find's first part outside the port's admitted set.
+#[test]
+fn foreign_in_the_own_group() {
+    let mut made = fabric(&[edge(1, 1), edge(1, 2)], &[], &[entry(1, 1, 2)]);
+    made.edges[0].admitted = Set {
+        care: 1 << 127 | 1 << 3,
+        value: 1 << 3,
+    };
+    // The target's own admitted set doesn't matter.
+    made.edges[1].admitted = Set::only(77);
+    let of = |query| answer(verdict, &write(&made), 96, &query).unwrap();
+    let words = of(wild_query(2, 1, 1));
+    assert_eq!(words[..9], [1, 1, 1, 1, 0x80000000, 0, 0, 0, 0]);
+    let mut asked = wild_query(2, 1, 1);
+    asked.care[0] = 0x80000000;
+    assert_eq!(of(asked)[..8], [1, 1, 1, 1, 0, 0, 0, 0]);
+    asked.care[3] = 8;
+    asked.value[3] = 8;
+    assert_eq!(of(asked)[..2], [0, 1]);
+}
+
+/// A packet may come back to the target, its own start.
+#[test]
+fn the_target_reaches_itself() {
+    let made = fabric(
+        &[edge(1, 1)],
+        &[link(10, 11)],
+        &[entry(1, 1, 10), entry(1, 11, 1)],
+    );
+    let listed = answer(list, &write(&made), 96, &wild_query(1, 16, 9)).unwrap();
+    let expected = [&[0x60002001, 0x70000000, 0x70000001], &[0; 8][..]].concat();
+    assert_eq!(listed, expected);
+}

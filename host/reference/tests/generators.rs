@@ -1,0 +1,100 @@
+//! The generators make what they promise.
+
+mod common;
+
+use std::ops::ControlFlow;
+
+use common::answer;
+use reference::file::{read, write};
+use reference::index::Index;
+use reference::random::{
+    any, beater_chain, campus, cases, deep_ring, largest, ring, switches, twenty_denies, Benchmark,
+    Rng,
+};
+use reference::trace::trace;
+use reference::{list, verdict, Fabric, Query, Set};
+
+#[test]
+fn fabrics_are_accepted_and_read_back() {
+    cases(900_000, 5000, |rng| {
+        let fabric = any(rng);
+        assert_eq!(read(&write(&fabric)), Ok(fabric));
+    });
+}
+
+#[test]
+fn a_seed_makes_the_same_fabric() {
+    cases(1, 50, |rng| {
+        let again = &mut rng.clone();
+        assert_eq!(any(rng), any(again));
+        assert_ne!(rng.draw(), rng.draw());
+    });
+}
+
+#[test]
+fn the_largest_file_is_as_large_as_can_be() {
+    cases(910_000, 20, |rng| {
+        assert_eq!(write(&largest(rng)).len(), 40_200);
+    });
+}
+
+/// The most hops of a find, over all targets.
+fn most_hops(fabric: &Fabric) -> usize {
+    let index = Index::new(fabric);
+    let mut most = 0;
+    for edge in &fabric.edges {
+        trace(&index, edge.port, 16, Set::ALL_WILD, 1_000_000, |find| {
+            most = most.max(find.entries.len());
+            ControlFlow::Continue(())
+        });
+    }
+    most
+}
+
+#[test]
+fn rings_and_switches_are_crossed() {
+    let most = |make: fn(&mut Rng) -> Fabric| {
+        let fabrics = (0..100).map(|seed| make(&mut Rng::new(seed)));
+        fabrics.map(|fabric| most_hops(&fabric)).max()
+    };
+    assert_eq!(most(ring), Some(16));
+    assert!(most(switches) >= Some(4));
+}
+
+#[test]
+fn beater_chains_reach_63() {
+    let chains = (0..300).map(|seed| beater_chain(&mut Rng::new(seed)));
+    assert_eq!(chains.map(|fabric| fabric.entries.len()).max(), Some(64));
+}
+
+/// Entries, units and finds of a benchmark, whose target is isolated.
+fn measure(benchmark: Benchmark, lent: usize) -> (usize, u32, u32) {
+    let Benchmark { fabric, query, .. } = benchmark;
+    let file = write(&fabric);
+    assert_eq!(read(&file), Ok(fabric.clone()));
+    let words = answer(verdict, &file, 96, &query).unwrap();
+    assert_eq!(words[0], 0);
+    let units = words[1];
+    let short = Query {
+        budget: units - 1,
+        ..query
+    };
+    assert_eq!(answer(verdict, &file, 96, &short), Err((13, 0)));
+    let listed = answer(list, &file, lent, &query).unwrap();
+    let mut finds = 0;
+    let mut rest = &listed[..];
+    while let [first, ..] = rest {
+        rest = &rest[9 + (first >> 12 & 0xffff) as usize..];
+        finds += 1;
+    }
+    (fabric.entries.len(), units, finds)
+}
+
+#[test]
+fn the_benchmarks() {
+    assert_eq!(measure(twenty_denies(), 40 << 20), (21, 1 << 20, 1 << 20));
+    assert_eq!(measure(deep_ring(), 1 << 20), (512, 105_986, 256));
+    assert_eq!(most_hops(&deep_ring().fabric), 16);
+    assert_eq!(measure(campus(), 1 << 20), (504, 6722, 468));
+    assert_eq!(most_hops(&campus().fabric), 3);
+}
