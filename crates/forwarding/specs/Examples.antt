@@ -1,0 +1,240 @@
+-- Document 01's examples on fabric F and on single entries, and where the published method misleads; each computed. Assumes nothing.
+use mathlib.Core.Bool.{true, _||_, cond}
+use mathlib.Core.List.{List, [], _∷_, map, flatMap}
+use mathlib.Core.Option.{some, none, bind, Option·elim, orElse}
+use mathlib.Core.Path.{_≡_, refl}
+use Prim.Native.Nat.{ℕ}
+use lib.Dec.{eqb}
+use lib.ListN.{length, getD}
+use Rattle.headers.specs.Bits.{bit, bitAt, positions, those, setBits, single}
+use Rattle.headers.specs.Sets.{Header, Set, Rewrite, allWild, noRewrite, intersection, undone}
+use Rattle.headers.specs.Carving.{partsAt, parts, carve, holders}
+use Rattle.forwarding.specs.Fabric.{Entry, Fabric, holds, beats, applied, undoes}
+use Rattle.forwarding.specs.Run.{Packet, left, dropped, travelling, unbeaten, takes, taker, hop, run, fateOf, portOf, headerOf, takenBy, hopsMade}
+use Rattle.forwarding.specs.BackTrace.{back, beaters, survivors, backTraced}
+use Rattle.forwarding.specs.Trace.{unit, find, carved, atInPort, takenUp, stop, trace}
+use Rattle.forwarding.specs.Verdict.{isolated, reached, foreignPacket, verdict, verdictOn, endsWithin, verdictWithin}
+
+abbrev pub header : ℕ → ℕ → ℕ → ℕ → Header
+header a b c d = a ∷ b ∷ c ∷ d ∷ []
+
+abbrev pub set : Header → Header → Set
+set care value = record { care = care; value = value }
+
+abbrev pub tpDst : ℕ → Set
+tpDst port = set (header 0 0 0xffff 0) (header 0 0 port 0)
+
+abbrev pub setTpDst : ℕ → Rewrite
+setTpDst port = record { mask = header 0 0 0xffff 0; value = header 0 0 port 0 }
+
+-- priority, in-port, out-port, match and rewrite
+abbrev pub entryOf : ℕ → ℕ → ℕ → Set → Rewrite → Entry
+entryOf priority inPort outPort matches rewrite = record {
+  priority = priority;
+  inPort = inPort;
+  outPort = outPort;
+  matches = matches;
+  rewrite = rewrite;
+}
+
+-- edge port 1 of group 7 and edge port 2 of group 9, both with an all-wild admitted set, one link and these entries
+abbrev pub linked : ℕ → ℕ → List Entry → Fabric
+linked from to l = record {
+  words = 4;
+  entries = length l;
+  entry = λ e. getD l e (entryOf 0 0 0 (allWild 4) (noRewrite 4));
+  isEdge = λ x. eqb x 1 || eqb x 2;
+  group = λ x. cond (eqb x 1) 7 9;
+  admitted = λ x. allWild 4;
+  linkTo = λ x. cond (eqb x from) to 0;
+  linkFrom = λ x. cond (eqb x to) from 0;
+}
+
+-- the same with no link
+abbrev fabric : List Entry → Fabric
+fabric l = linked 0 0 l
+
+-- What the examples compute with: to open it is to open all that its line names.
+computingSets : Unit {0}
+unfolding bit bitAt positions those setBits single partsAt parts carve holders intersection undone
+computingSets = tt
+
+computingRun : Unit {0}
+unfolding computingSets holds beats applied unbeaten takes taker hop run fateOf portOf headerOf takenBy
+computingRun = tt
+
+computingBack : Unit {0}
+unfolding computingRun bind Option·elim flatMap undoes back beaters survivors backTraced
+computingBack = tt
+
+computing : Unit {0}
+unfolding computingBack carved atInPort takenUp stop orElse foreignPacket verdict endsWithin verdictWithin
+computing = tt
+
+-- ---- fabric F
+
+abbrev F : Fabric
+F = fabric
+    (entryOf 20 1 0 (set (header 0 0 3 0) (header 0 0 1 0)) (noRewrite 4)
+    ∷ entryOf 10 1 2 (set (header 0 0xffffffff 0 0) (header 0 0x0a000002 0 0)) (noRewrite 4)
+    ∷ [])
+
+-- "list, target 2, limit 1, budget 2, all wild"
+E2 : trace F 1 2 (allWild 4)
+    ≡ unit
+    ∷ unit
+    ∷ find (record { port = 1; path = 1 ∷ []; set = set (header 0 0xffffffff 2 0) (header 0 0x0a000002 2 0) })
+    ∷ find (record { port = 1; path = 1 ∷ []; set = set (header 0 0xffffffff 3 0) (header 0 0x0a000002 0 0) })
+    ∷ []
+unfolding computing
+E2 = refl
+
+E2-budget : endsWithin 2 0 (trace F 1 2 (allWild 4)) ≡ true
+unfolding computing
+E2-budget = refl
+
+-- "verdict there: reached, 2 units, port 1, 1 hop, header 0 0x0a000002 2 0, entry 1"
+E3 : verdictOn F 2 1 (allWild 4) ≡ reached 2 1 (1 ∷ []) (header 0 0x0a000002 2 0)
+unfolding computing
+E3 = refl
+
+-- its packet by the forwarding rule
+E3-run : run F 1 1 (header 0 0x0a000002 2 0) ≡ left 2 (header 0 0x0a000002 2 0) (1 ∷ [])
+unfolding computing
+E3-run = refl
+
+-- "budget 1: 13"
+E4 : verdictWithin F 2 1 0 (trace F 1 2 (allWild 4)) ≡ none
+unfolding computing
+E4 = refl
+
+-- "verdict, target 1, limit 1, budget 0, all wild: isolated, 0 units"
+E5 : verdictWithin F 1 0 0 (trace F 1 1 (allWild 4)) ≡ some (isolated 0)
+unfolding computing
+E5 = refl
+
+-- ---- equal priorities
+
+-- of two entries with the same match and priority the earlier one takes the packet
+tie : run (fabric (entryOf 10 1 2 (allWild 4) (noRewrite 4) ∷ entryOf 10 1 0 (allWild 4) (noRewrite 4) ∷ [])) 1 1 (header 0 0 0 0)
+    ≡ left 2 (header 0 0 0 0) (0 ∷ [])
+unfolding computing
+tie = refl
+
+-- ---- two hops over a link
+
+-- entry 0 writes tp_dst 5 and sends from edge port 1 to port 3, from which a link leads to port 4, where entry 1 takes tp_dst 5 to
+-- edge port 2
+abbrev pub twoHops : Fabric
+twoHops = linked 3 4 (entryOf 10 1 3 (allWild 4) (setTpDst 5) ∷ entryOf 10 4 2 (tpDst 5) (noRewrite 4) ∷ [])
+
+pub two-hops-back : trace twoHops 2 2 (allWild 4) ≡ unit ∷ unit ∷ find (record { port = 1; path = 0 ∷ 1 ∷ []; set = allWild 4 }) ∷ []
+unfolding computing
+two-hops-back = refl
+
+one-hop-back : trace twoHops 1 2 (allWild 4) ≡ unit ∷ []
+unfolding computing
+one-hop-back = refl
+
+two-hops : run twoHops 2 1 (header 0 0 22 0) ≡ left 2 (header 0 0 5 0) (1 ∷ 0 ∷ [])
+unfolding computing
+two-hops = refl
+
+one-hop : run twoHops 1 1 (header 0 0 22 0) ≡ travelling 4 (header 0 0 5 0) (0 ∷ [])
+unfolding computing
+one-hop = refl
+
+-- ---- the four fates
+
+-- a packet that leaves, one that entry 0 of F drops, one that no entry of F takes and one that travels on
+abbrev packets : List Packet
+packets =
+    run F 1 1 (header 0 0x0a000002 2 0)
+    ∷ run F 1 1 (header 0 0 1 0)
+    ∷ run F 1 1 (header 0 0 2 0)
+    ∷ run twoHops 1 1 (header 0 0 22 0)
+    ∷ []
+
+fates : map fateOf packets ≡ 0 ∷ 1 ∷ 2 ∷ 3 ∷ []
+unfolding computing
+fates = refl
+
+ports : map portOf packets ≡ 2 ∷ 1 ∷ 1 ∷ 4 ∷ []
+unfolding computing
+ports = refl
+
+headers : map headerOf packets ≡ header 0 0x0a000002 2 0 ∷ header 0 0 1 0 ∷ header 0 0 2 0 ∷ header 0 0 5 0 ∷ []
+unfolding computing
+headers = refl
+
+hops : map hopsMade packets ≡ 1 ∷ 1 ∷ 0 ∷ 1 ∷ []
+unfolding computing
+hops = refl
+
+-- ---- one entry traced back
+
+-- "rewriting tp_dst to 5 with an all-wild match, exit tp_dst 5: all wild"
+abbrev rewriting : Fabric
+rewriting = fabric (entryOf 0 1 2 (allWild 4) (setTpDst 5) ∷ [])
+
+E8 : backTraced rewriting 0 (tpDst 5) ≡ allWild 4 ∷ []
+unfolding computing
+E8 = refl
+
+-- "exit tp_dst 6: empty"
+E9 : backTraced rewriting 0 (tpDst 6) ≡ []
+unfolding computing
+E9 = refl
+
+-- "match tp_dst 80, rewrite to 5, all-wild exit: tp_dst 80"
+E10 : backTraced (fabric (entryOf 0 1 2 (tpDst 80) (setTpDst 5) ∷ [])) 0 (allWild 4) ≡ tpDst 80 ∷ []
+unfolding computing
+E10 = refl
+
+-- ---- where the published method misleads
+
+-- "Forwarding a back-traced set need not give the whole exit set": with the all-wild exit set every header is traced back, and
+-- by E9 none of them is forwarded to tp_dst 6
+whole-exit-traced : backTraced rewriting 0 (allWild 4) ≡ allWild 4 ∷ []
+unfolding computing
+whole-exit-traced = refl
+
+-- "A beater on nw_src 10.0.0.1 and tp_dst 80 leaves tp_dst 80 from other sources."
+abbrev twoAttributes : Fabric
+twoAttributes = fabric
+    (entryOf 20 1 0 (set (header 0xffffffff 0 0xffff 0) (header 0x0a000001 0 80 0)) (noRewrite 4)
+    ∷ entryOf 10 1 2 (allWild 4) (noRewrite 4)
+    ∷ [])
+
+other-source-held : holders 4 (backTraced twoAttributes 1 (allWild 4)) (header 0x0a000002 0 80 0) ≡ 1
+unfolding computing
+other-source-held = refl
+
+other-source-leaves : run twoAttributes 1 1 (header 0x0a000002 0 80 0) ≡ left 2 (header 0x0a000002 0 80 0) (1 ∷ [])
+unfolding computing
+other-source-leaves = refl
+
+-- "Looking for a beater at the exit, with the rewritten header.": entry 0 beats entry 1 and holds what entry 1 makes of tp_dst 22, but
+-- not tp_dst 22, so entry 1 takes it
+abbrev beaterAtExit : Fabric
+beaterAtExit = fabric
+    (entryOf 20 1 0 (tpDst 80) (noRewrite 4)
+    ∷ entryOf 10 1 2 (allWild 4) (setTpDst 80)
+    ∷ [])
+
+rewritten-is-held : holds beaterAtExit 0 (applied beaterAtExit 1 (header 0 0 22 0)) ≡ true
+unfolding computing
+rewritten-is-held = refl
+
+not-beaten : run beaterAtExit 1 1 (header 0 0 22 0) ≡ left 2 (header 0 0 80 0) (1 ∷ [])
+unfolding computing
+not-beaten = refl
+
+not-beaten-held : holders 4 (backTraced beaterAtExit 1 (tpDst 80)) (header 0 0 22 0) ≡ 1
+unfolding computing
+not-beaten-held = refl
+
+-- and tp_dst 80 goes to entry 0, which drops it
+is-beaten : run beaterAtExit 1 1 (header 0 0 80 0) ≡ dropped 1 (header 0 0 80 0) (0 ∷ [])
+unfolding computing
+is-beaten = refl

@@ -1,0 +1,6 @@
+pub mod Fabric
+pub mod Run
+pub mod BackTrace
+pub mod Trace
+pub mod Verdict
+pub mod Examples

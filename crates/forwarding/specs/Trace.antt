@@ -1,0 +1,70 @@
+-- The back-trace as a list of events, which knows no budget: document 01, "The back-trace and its count". Assumes nothing.
+use mathlib.Core.Bool.{_&&_, cond}
+use mathlib.Core.List.{List, [], _∷_, flatMap}
+use mathlib.Core.Option.{Option·elim}
+use Prim.Native.Nat.{ℕ, zero, suc}
+use lib.Dec.{eqb}
+use Rattle.headers.specs.Sets.{Header, Set, contains}
+use Rattle.headers.specs.Carving.{carve}
+use Rattle.forwarding.specs.Fabric.{Fabric, inPortOf, outPortOf, entriesWhere}
+use Rattle.forwarding.specs.BackTrace.{back, beaters}
+
+-- document 01's find: a part at an edge port, with the entries from there to the target in travelling order
+pub record Find : Type 0 where
+  pub port : ℕ
+  pub path : List ℕ
+  pub set : Set
+
+pub data Event : Type 0 where
+  unit : Event
+  find : Find → Event
+
+module _ (f : Fabric) where
+  -- "Carve by the entries that beat it, in file order: trying one part against one beater is one unit, and each part is then tried
+  -- against the next beater, its whole descent before its next sibling." What is left goes on to `next`.
+  unfoldable pub carved : (Set → List Event) → List ℕ → Set → List Event
+  carved next [] p = next p
+  carved next (b ∷ bs) p = unit ∷ flatMap (carved next bs) (carve (f .words) p (f .entry b .matches))
+
+  -- "If a link ends there .. a stop follows at its from-port": from port y, if there is one
+  abbrev pub fromPort : (ℕ → Set → List ℕ → List Event) → ℕ → List ℕ → Set → List Event
+  fromPort next zero path p = []
+  fromPort next (suc y) path p = next (suc y) p path
+
+  -- A surviving part p at in-port x, `path` leading from there to the target and `next` being the stop with one hop less.
+  -- "If that is an edge port, the part is a find. If a link ends there .. a stop follows at its from-port with one hop less."
+  unfoldable pub atInPort : (ℕ → Set → List ℕ → List Event) → ℕ → List ℕ → Set → List Event
+  atInPort next x path p =
+      cond (f .isEdge x) (find (record { port = x; path = path; set = p }) ∷ []) (fromPort next (f .linkFrom x) path p)
+
+  -- "taken up .. one unit each. Undo the rewrite for T and intersect with the match; if empty, next entry. Carve by the entries that beat it"
+  unfoldable pub takenUp : (ℕ → Set → List ℕ → List Event) → Set → List ℕ → ℕ → List Event
+  takenUp next t path e =
+      unit ∷ Option·elim (back f e t) [] (carved (atInPort next (inPortOf f e) (e ∷ path)) (beaters f e))
+
+  -- "A stop is an out-port, a set T and hops left. At a stop, the entries with that out-port are taken up in file order"; with no hop
+  -- left there is no stop. `path` leads from there to the target.
+  unfoldable pub stop : ℕ → ℕ → Set → List ℕ → List Event
+  stop zero o t path = []
+  stop (suc hops) o t path = flatMap (takenUp (stop hops) t path) (entriesWhere f (λ e. eqb (outPortOf f e) o))
+
+  -- "The first stop is the target with the limit."
+  abbrev pub trace : ℕ → ℕ → Set → List Event
+  trace limit target asked = stop limit target asked []
+
+-- "A call's count is the units that would be made, were there no budget"
+unfoldable pub units : List Event → ℕ
+units [] = 0
+units (unit ∷ es) = suc (units es)
+units (find d ∷ es) = units es
+
+-- the finds, in order
+unfoldable pub finds : List Event → List Find
+finds [] = []
+finds (unit ∷ es) = finds es
+finds (find d ∷ es) = d ∷ finds es
+
+-- the paths of the finds at port p that hold h, over n words
+unfoldable pub pathsFor : ℕ → ℕ → Header → List Find → List (List ℕ)
+pathsFor n p h [] = []
+pathsFor n p h (d ∷ l) = cond (eqb p (d .port) && contains n (d .set) h) (d .path ∷ pathsFor n p h l) (pathsFor n p h l)
