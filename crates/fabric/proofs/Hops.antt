@@ -1,0 +1,136 @@
+-- One hop of a packet, as the code carries it. Assumes nothing.
+use mathlib.Core.Bool.{Bool}
+use mathlib.Core.List.{List, [], _∷_, reverse, reverse-cons}
+use mathlib.Core.Option.{Option, some, none}
+use mathlib.Core.Path.{_≡_, refl, sym, ap, ap₂, _∙_, subst}
+use Prim.Native.Nat.{ℕ, zero, suc, _+_, _*_, _≤_, _<_}
+use native.Mathlib.Numerals.{add-one}
+use native.Mathlib.Omega.{arith}
+use lib.ListN.{length, set, length-reverse, length-append}
+use Rattle.headers.specs.Sets.{Header}
+use Rattle.answer.specs.Answer.{sixteen}
+use Rattle.forwarding.specs.Fabric.{Fabric, outPortOf, applied}
+use Rattle.forwarding.specs.Run.{Packet, left, dropped, lost, travelling, taker, sentOut, forwarded, hop, run, fateOf, portOf, headerOf, takenBy, entriesTaken, hopsMade}
+use Rattle.forwarding.proofs.Runs.{hops-within}
+use Rattle.fabric.specs.Run.{packetWords}
+use Rattle.fabric.specs.Journey.{journeyOf, journeyWords, Hopped}
+use Rattle.fabric.specs.declared.journey.Journey.{Journey}
+use Rattle.fabric.proofs.Sixteen.{sixteen-more, sixteen-long}
+
+-- the packet that j is, still travelling
+record Travels (p : Packet) (j : Journey) : Type 0 where
+  taken : List ℕ
+  is : p ≡ travelling (j .port) (j .header) taken
+  hops : length taken ≡ j .hops
+  entries : sixteen (reverse taken) ≡ j .entries
+
+travels : (p : Packet) (j : Journey) → journeyOf p ≡ j → j .fate ≡ 3 → Travels p j
+unfolding journeyOf fateOf portOf headerOf takenBy
+travels (travelling x h r) j e three = record {
+  taken = r;
+  is = ap₂ (λ (y : ℕ) (g : Header). travelling y g r) (ap (λ (k : Journey). k .port) e) (ap (λ (k : Journey). k .header) e);
+  hops = ap (λ (k : Journey). k .hops) e;
+  entries = ap (λ (k : Journey). k .entries) e;
+}
+travels (left o h r) j e three = absurd (let z : 0 ≡ 3 = ap (λ (k : Journey). k .fate) e ∙ three in omega arith)
+travels (dropped x h r) j e three = absurd (let z : 1 ≡ 3 = ap (λ (k : Journey). k .fate) e ∙ three in omega arith)
+travels (lost x h r) j e three = absurd (let z : 2 ≡ 3 = ap (λ (k : Journey). k .fate) e ∙ three in omega arith)
+
+module _ (F : Fabric) (j : Journey) where
+  -- a packet at its end stays as it is
+  pub hopped-ended : (j .fate ≡ 3 → ⊥) → Hopped F j j
+  unfolding journeyOf fateOf hop
+  hopped-ended ended = record { follows = go }
+    where
+      go : (p : Packet) → hopsMade p < 16 → journeyOf p ≡ j → journeyOf (hop F p) ≡ j
+      go (travelling x h r) l e = absurd (ended (sym (ap (λ (k : Journey). k .fate) e)))
+      go (left o h r) l e = e
+      go (dropped x h r) l e = e
+      go (lost x h r) l e = e
+
+  module _ (three : j .fate ≡ 3) where
+    -- what becomes of a travelling packet is what `forwarded` makes of its taker
+    by-taker : (o : Option ℕ) (r : Journey) → taker F (j .port) (j .header) ≡ o
+        → ((q : List ℕ) → length q < 16 → length q ≡ j .hops → sixteen (reverse q) ≡ j .entries → journeyOf (forwarded F (j .port) (j .header) q o) ≡ r)
+        → Hopped F j r
+    unfolding hop takenBy
+    by-taker o r t then = record {
+      follows = λ p l e.
+          let v = travels p j e three in
+          ap (λ (k : Packet). journeyOf (hop F k)) (v .is)
+          ∙ ap (λ (x : Option ℕ). journeyOf (forwarded F (j .port) (j .header) (v .taken) x)) t
+          ∙ then (v .taken) (subst (λ (k : Packet). hopsMade k < 16) (v .is) l) (v .hops) (v .entries);
+    }
+
+    -- "No entry: lost."
+    pub hopped-lost : taker F (j .port) (j .header) ≡ none
+        → Hopped F j (record { fate = 2; port = j .port; hops = j .hops; header = j .header; entries = j .entries })
+    unfolding journeyOf fateOf portOf headerOf takenBy
+    hopped-lost t = by-taker none _ t λ q l n e. λ i. record { fate = 2; port = j .port; hops = n i; header = j .header; entries = e i }
+
+    -- a taker sends the packet out: where it then is, and its fate there
+    module _ (e : ℕ) (t : taker F (j .port) (j .header) ≡ some e) (h : Header) (is : applied F e (j .header) ≡ h) where
+      abbrev pub sent : ℕ → ℕ → Journey
+      sent f x = record { fate = f; port = x; hops = j .hops + 1; header = h; entries = set (j .entries) (j .hops) e }
+
+      -- the hops and the entries with one more
+      more-hops : (q : List ℕ) → length q ≡ j .hops → length (e ∷ q) ≡ j .hops + 1
+      more-hops q n = ap suc n ∙ sym (add-one (j .hops))
+
+      more-entries : (q : List ℕ) → length q < 16 → length q ≡ j .hops → sixteen (reverse q) ≡ j .entries
+          → sixteen (reverse (e ∷ q)) ≡ set (j .entries) (j .hops) e
+      more-entries q l n k =
+          ap sixteen (reverse-cons e q)
+          ∙ sym (sixteen-more (reverse q) e (rw (length-reverse q) l))
+          ∙ ap₂ (λ (x : List ℕ) (m : ℕ). set x m e) k (length-reverse q ∙ n)
+
+      -- "Out-port 0: dropped."
+      pub hopped-dropped : outPortOf F e ≡ 0 → Hopped F j (sent 1 (j .port))
+      unfolding journeyOf fateOf portOf headerOf takenBy
+      hopped-dropped o = by-taker (some e) _ t λ q l n k.
+          ap (λ (x : ℕ). journeyOf (sentOut F (j .port) x (F .linkTo (outPortOf F e)) (applied F e (j .header)) (e ∷ q))) o
+          ∙ λ i. record { fate = 1; port = j .port; hops = more-hops q n i; header = is i; entries = more-entries q l n k i }
+
+      -- "Any other: it leaves there."
+      pub hopped-left : (x : ℕ) → outPortOf F e ≡ x → (x ≡ 0 → ⊥) → F .linkTo x ≡ 0 → Hopped F j (sent 0 x)
+      unfolding journeyOf fateOf portOf headerOf takenBy
+      hopped-left zero o d z = absurd (d refl)
+      hopped-left (suc x) o d z = by-taker (some e) _ t λ q l n k.
+          ap₂ (λ (x y : ℕ). journeyOf (sentOut F (j .port) x y (applied F e (j .header)) (e ∷ q))) o (ap (F .linkTo) o ∙ z)
+          ∙ λ i. record { fate = 0; port = suc x; hops = more-hops q n i; header = is i; entries = more-entries q l n k i }
+
+      -- "An out-port that is some link's from-port: the packet goes on at the to-port."
+      pub hopped-on : (x y : ℕ) → outPortOf F e ≡ x → (x ≡ 0 → ⊥) → F .linkTo x ≡ y → (y ≡ 0 → ⊥) → Hopped F j (sent 3 y)
+      unfolding journeyOf fateOf portOf headerOf takenBy
+      hopped-on zero y o d z u = absurd (d refl)
+      hopped-on (suc x) zero o d z u = absurd (u refl)
+      hopped-on (suc x) (suc y) o d z u = by-taker (some e) _ t λ q l n k.
+          ap₂ (λ (x y : ℕ). journeyOf (sentOut F (j .port) x y (applied F e (j .header)) (e ∷ q))) o (ap (F .linkTo) o ∙ z)
+          ∙ λ i. record { fate = 3; port = suc y; hops = more-hops q n i; header = is i; entries = more-entries q l n k i }
+
+-- ---- a run, hop by hop
+
+pub one-more-hop : (F : Fabric) (k p : ℕ) (h : Header) → journeyOf (hop F (run F k p h)) ≡ journeyOf (run F (k + 1) p h)
+unfolding run
+one-more-hop F k p h = ap (λ (m : ℕ). journeyOf (run F m p h)) (sym (add-one k))
+
+-- after fewer than 16 hops there is a place for one more entry
+pub few-hops : (F : Fabric) (k p : ℕ) (h : Header) (j : Journey) → j ≡ journeyOf (run F k p h) → k < 16 → j .hops < 16
+unfolding journeyOf
+few-hops F k p h j e l = let n = ap (λ (x : Journey). x .hops) e in omega (arith, hops-within F k p h)
+
+pub few-hops-then : (F : Fabric) (k p : ℕ) (h : Header) (j : Journey) → j ≡ journeyOf (run F k p h) → k ≤ 16 → j .hops ≤ 16
+unfolding journeyOf
+few-hops-then F k p h j e l = let n = ap (λ (x : Journey). x .hops) e in omega (arith, hops-within F k p h)
+
+-- a packet's answer has 24 words, as its header has four
+pub words-are-24 : (p : Packet) (j : Journey) → j ≡ journeyOf p → length (j .header) ≡ 4 → 24 * 256 ≡ length (packetWords p) * 256
+unfolding packetWords journeyOf
+words-are-24 p j e four =
+    let h : length (headerOf p) ≡ 4 = sym (ap (λ (k : Journey). length (k .header)) e) ∙ four in
+    omega (arith, length-append (headerOf p) (sixteen (entriesTaken p)), sixteen-long (entriesTaken p))
+
+-- the words of a packet are those of its journey
+pub words-same : (p : Packet) → journeyWords (journeyOf p) ≡ packetWords p
+unfolding journeyOf packetWords
+words-same p = refl

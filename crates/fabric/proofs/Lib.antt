@@ -1,0 +1,4 @@
+pub mod Lookups
+pub mod Sixteen
+pub mod Hops
+pub mod Asking

@@ -1,0 +1,44 @@
+-- What the tables of an accepted file say of its fabric. Assumes nothing.
+use mathlib.Core.Bool.{Bool, true, false, true≢false}
+use mathlib.Core.List.{List}
+use mathlib.Core.Path.{_≡_, refl, sym, ap, _∙_}
+use Prim.Native.Nat.{ℕ, suc, _≤_, _<_}
+use native.Mathlib.Omega.{arith}
+use lib.Dec.{ltb}
+use lib.ListN.{getD}
+use Rattle.headers.proofs.Booleans.{refuted}
+use Rattle.file.specs.Accepted.{Accepted}
+use Rattle.file.specs.Records.{portOfEdge, fromOfLink, toOfLink, recent}
+use Rattle.file.specs.Tables.{Numbers}
+use Rattle.file.specs.declared.Shape.{Shape}
+use Rattle.file.proofs.Lists.{number-has}
+use Rattle.forwarding.specs.Fabric as Forwarding
+use Rattle.model.specs.Model.{under, edgeAt, linkBeginning, fabricOf, fabricIn}
+use Rattle.model.proofs.Shapes.{fabric-is, EdgeThere, edge-there}
+
+module _ (f : List ℕ) (s : Shape) (ok : Accepted f s) where
+  -- past the last port there is no edge
+  pub edge-past : (x : ℕ) → 4096 ≤ x → fabricIn f .isEdge x ≡ false
+  edge-past x l = ap (λ (F : Forwarding.Fabric). F .isEdge x) (fabric-is f s ok) ∙ refuted _ λ e.
+      let d = edge-there f s x e in
+      omega (arith, d .port-is)
+
+  pub edge-looked-up : (t : List ℕ) → Numbers (recent (portOfEdge f) (s .edges)) t → (x : ℕ) → x < 4096 → ltb 0 (getD t x 0) ≡ fabricIn f .isEdge x
+  unfolding fabricOf edgeAt
+  edge-looked-up t T x l = ap (ltb 0) (T .holds x l) ∙ sym (ap (λ (F : Forwarding.Fabric). F .isEdge x) (fabric-is f s ok))
+
+  module _ (t : List ℕ) (T : Numbers (recent (fromOfLink f (s .edges)) (s .links)) t) (x : ℕ) (l : x < 4096) where
+    link-under : fabricIn f .linkTo x ≡ under 0 (toOfLink f (s .edges)) (getD t x 0)
+    unfolding fabricOf linkBeginning
+    link-under =
+        ap (λ (F : Forwarding.Fabric). F .linkTo x) (fabric-is f s ok)
+        ∙ ap (under 0 (toOfLink f (s .edges))) (sym (T .holds x l))
+
+    pub no-link : getD t x 0 ≡ 0 → fabricIn f .linkTo x ≡ 0
+    no-link e = link-under ∙ ap (under 0 (toOfLink f (s .edges))) e
+
+    pub link-looked-up : (i : ℕ) → getD t x 0 ≡ suc i → fabricIn f .linkTo x ≡ toOfLink f (s .edges) i
+    link-looked-up i e = link-under ∙ ap (under 0 (toOfLink f (s .edges))) e
+
+    pub link-number : (i : ℕ) → getD t x 0 ≡ suc i → i < s .links
+    link-number i e = number-has (fromOfLink f (s .edges)) (s .links) x i (sym (T .holds x l) ∙ e) .0

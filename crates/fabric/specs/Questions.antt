@@ -1,0 +1,46 @@
+-- Questions 8 to 12 of document 01, "Questions asked in turn", as each call asks them after 1 to 7. Assumes nothing.
+use mathlib.Core.Bool.{Bool, _&&_}
+use mathlib.Core.List.{List}
+use Prim.Native.Nat.{ℕ, _+_, _*_, _-_, _^_}
+use lib.Dec.{leb, eqb}
+use lib.ListN.{length}
+use Rattle.headers.specs.Bits.{word, every}
+use Rattle.headers.specs.Sets.{Set, tidy}
+use Rattle.answer.specs.Answer.{Outcome, refused}
+use Rattle.file.specs.File.{headerWords}
+use Rattle.file.specs.Questions.{pick}
+
+-- "words 1 to 11 of the program's query": "target or start; hop limit; budget, unused by a run; care; value"
+pub record Query : Type 0 where
+  pub port : ℕ
+  pub limit : ℕ
+  pub budget : ℕ
+  pub asked : Set
+
+-- the query as the code has it
+abbrev pub query : ℕ → ℕ → ℕ → Set → Query
+query port limit budget asked = record { port = port; limit = limit; budget = budget; asked = asked }
+
+-- the words of a verdict's or a run's answer: four, a header, and an entry for each hop
+abbrev pub answerWords : ℕ
+answerWords = 4 + headerWords + 16
+
+-- 9. "Is the hop limit 1 to 16?"
+abbrev pub limitRight : ℕ → Bool
+limitRight limit = leb 1 limit && leb limit 16
+
+-- 10. "Is the asked value zero outside its care"
+abbrev pub askedTidy : Set → Bool
+askedTidy s = tidy headerWords s
+
+-- 10. ".. and for a run all 128 bits cared for?"
+abbrev pub caresForAll : Set → Bool
+caresForAll s = every headerWords (λ w. eqb (word (s .care) w) (2 ^ 32 - 1))
+
+-- 12. "Are 96 bytes lent (verdict, run)?"
+abbrev pub roomForAnswer : List ℕ → Bool
+roomForAnswer area = leb (4 * answerWords) (length area)
+
+-- "Then, place 0": the number of the first no, if any, else what the call does
+abbrev pub orRefused : ℕ → List ℕ → Outcome → Outcome
+orRefused number area done = pick (eqb number 0) done (refused number 0 area)

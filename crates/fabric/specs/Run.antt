@@ -1,0 +1,38 @@
+-- The call run: document 01, "A packet run takes an edge port, header and hop limit and fills 24 words." Assumes nothing.
+use mathlib.Core.Bool.{_&&_}
+use mathlib.Core.List.{List, [], _∷_, _++_}
+use Prim.Native.Nat.{ℕ}
+use Rattle.answer.specs.Answer.{Outcome, refused, answered, sixteen}
+use Rattle.file.specs.Questions.{accepted, Question, _asks_, firstNo}
+use Rattle.file.specs.declared.Read.{Read}
+use Rattle.file.specs.declared.Read.the-variants.{Fabric, No}
+use Rattle.forwarding.specs.Fabric as Forwarding
+use Rattle.forwarding.specs.Run.{Packet, run, fateOf, portOf, headerOf, entriesTaken, hopsMade}
+use Rattle.model.specs.Model.{fabricIn}
+use Rattle.fabric.specs.Questions.{Query, limitRight, askedTidy, caresForAll, roomForAnswer, orRefused}
+
+-- "Word 0: fate .. Word 1: 0. Word 2: port .. Word 3: hops. Words 4 to 7: header then. Words 8 to 23: entries taken"
+unfoldable pub packetWords : Packet → List ℕ
+packetWords p = fateOf p ∷ 0 ∷ portOf p ∷ hopsMade p ∷ (headerOf p ++ sixteen (entriesTaken p))
+
+-- the questions after 1 to 7, in turn
+abbrev pub runQuestions : Forwarding.Fabric → Query → List ℕ → List Question
+runQuestions F q area =
+    9 asks limitRight (q .limit)
+    ∷ 10 asks (askedTidy (q .asked) && caresForAll (q .asked))
+    ∷ 11 asks F .isEdge (q .port)
+    ∷ 12 asks roomForAnswer area
+    ∷ []
+
+module _ (f : List ℕ) (q : Query) where
+  -- the packet that is run: every bit of its header is cared for, so the header is the asked value
+  abbrev pub packetRun : Packet
+  packetRun = run (fabricIn f) (q .limit) (q .port) (q .asked .value)
+
+  abbrev pub runAnswer : Read → List ℕ → Outcome
+  runAnswer (No number place) area = refused number place area
+  runAnswer (Fabric s) area = orRefused (firstNo (runQuestions (fabricIn f) q area)) area (answered (packetWords packetRun) area)
+
+  -- what the call run returns and leaves in the area
+  unfoldable pub runCall : List ℕ → Outcome
+  runCall area = runAnswer (accepted f) area

@@ -1,0 +1,140 @@
+// A packet on its way: document 01, "Forwarding".
+use file::Shape;
+ghost use mathlib.Core.Path.{_≡_};
+ghost use Prim.Native.Nat.{_≤_, _<_};
+ghost use lib.ListN.{length};
+ghost use Rattle.answer.specs.Answer.{writtenAt};
+ghost use Rattle.file.specs.Accepted.{Accepted};
+ghost use Rattle.file.specs.Records.{fromOfLink, recent};
+ghost use Rattle.file.specs.Tables.{Numbers};
+ghost use Rattle.forwarding.specs.Run.{run};
+ghost use Rattle.model.specs.Model.{fabricIn};
+ghost use Rattle.fabric.specs.Journey.{journeyOf, journeyWords, Hopped};
+
+// A packet: its fate (0 left, 1 dropped, 2 lost, 3 travelling), port, header and hops made, and the entries that took it.
+pub struct Journey {
+    pub fate: u32,
+    pub port: u32,
+    pub hops: usize,
+    pub header: [u32; 4],
+    pub entries: [u32; 16],
+}
+
+fn size(x: u16) -> usize
+    ensures { λ r. ⌜ r ≡ x ⌝ }
+{
+    x as usize
+}
+
+// The to-port of the link from port o; 0 where there is none.
+fn link_after(file: &[u8], shape: Shape, starts: &[u16; 4096], o: u32) -> u32
+    requires { ⌜ Accepted (now file) shape ⌝ }
+    requires { ⌜ Numbers (recent (fromOfLink (now file) (shape .edges)) (shape .links)) (now starts) ⌝ }
+    requires { ⌜ o < 4096 ⌝ }
+    ensures { λ r. ⌜ r ≡ fabricIn (now (file .entry)) .linkTo o ⌝ }
+{
+    let k = size(starts[o as usize]);
+    if k == 0 {
+        return 0;
+    }
+    file::link_to(file, shape, k - 1)
+}
+
+// One hop, if the packet is still travelling.
+fn hop(file: &[u8], shape: Shape, starts: &[u16; 4096], j: Journey) -> Journey
+    requires { ⌜ Accepted (now file) shape ⌝ }
+    requires { ⌜ Numbers (recent (fromOfLink (now file) (shape .edges)) (shape .links)) (now starts) ⌝ }
+    requires { ⌜ j .hops < 16 ⌝ }
+    ensures { λ r. ⌜ Hopped (fabricIn (now (file .entry))) j r ⌝ }
+{
+    if j.fate != 3 {
+        return j;
+    }
+    let port = j.port;
+    let header = j.header;
+    let n = j.hops;
+    let mut entries = j.entries;
+    let e = model::taker(file, shape, port, header);
+    if e == shape.entries {
+        return Journey {
+            fate: 2,
+            port,
+            hops: n,
+            header,
+            entries,
+        };
+    }
+    entries[n] = e as u32;
+    let x = file::entry(file, shape, e);
+    let o = file::out_port(x);
+    let after = file::action(x).apply(header);
+    if o == 0 {
+        return Journey {
+            fate: 1,
+            port,
+            hops: n + 1,
+            header: after,
+            entries,
+        };
+    }
+    let z = link_after(file, shape, starts, o);
+    if z == 0 {
+        return Journey {
+            fate: 0,
+            port: o,
+            hops: n + 1,
+            header: after,
+            entries,
+        };
+    }
+    Journey {
+        fate: 3,
+        port: z,
+        hops: n + 1,
+        header: after,
+        entries,
+    }
+}
+
+// The run of a packet that starts at a port.
+pub fn travel(
+    file: &[u8],
+    shape: Shape,
+    starts: &[u16; 4096],
+    start: u32,
+    limit: usize,
+    header: [u32; 4],
+) -> Journey
+    requires { ⌜ Accepted (now file) shape ⌝ }
+    requires { ⌜ Numbers (recent (fromOfLink (now file) (shape .edges)) (shape .links)) (now starts) ⌝ }
+    requires { ⌜ limit ≤ 16 ⌝ }
+    ensures { λ r. ⌜ r ≡ journeyOf (run (fabricIn (now (file .entry))) limit start header) ⌝ }
+{
+    let mut j = Journey {
+        fate: 3,
+        port: start,
+        hops: 0,
+        header,
+        entries: [0; 16],
+    };
+    let mut k: usize = 0;
+    while k < limit {
+        j = hop(file, shape, starts, j);
+        k += 1;
+    }
+    j
+}
+
+// The 24 words of a run's answer.
+pub fn put(area: &mut [u8], j: Journey)
+    requires { ⌜ 96 ≤ length (now area) ⌝ }
+    requires { ⌜ j .hops ≤ 16 ⌝ }
+    ensures { λ _. ⌜ now (area .exit) ≡ writtenAt 0 (journeyWords j) (now (area .entry)) ⌝ }
+{
+    let first = [j.fate, 0, j.port, j.hops as u32];
+    let header = j.header;
+    let entries = j.entries;
+    answer::put_words(area, 0, &first);
+    answer::put_words(area, 4, &header);
+    answer::put_words(area, 8, &entries);
+}

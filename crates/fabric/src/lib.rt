@@ -1,0 +1,156 @@
+// The calls that the runtime's host makes: document 01, "The runtime's host, in Rust, makes these calls on byte slices and numbers".
+// Each asks document 01's questions in turn, and returns place × 256 + number; after a no every lent byte is as it was.
+mod journey;
+
+use file::Read;
+use file::Shape;
+use headers::HeaderSet;
+ghost use mathlib.Core.Path.{_≡_};
+ghost use mathlib.Core.Bool.{_&&_};
+ghost use mathlib.Core.List.{[], _∷_};
+ghost use Prim.Native.Nat.{_+_, _*_, _<_};
+ghost use Rattle.headers.specs.Forms.{setOf};
+ghost use Rattle.answer.specs.Answer.{outcome};
+ghost use Rattle.file.specs.Accepted.{Accepted};
+ghost use Rattle.file.specs.Questions.{pick};
+ghost use Rattle.file.specs.Records.{portOfEdge, fromOfLink, recent};
+ghost use Rattle.file.specs.Tables.{Numbers};
+ghost use Rattle.file.specs.declared.Read.the-variants.{Fabric};
+ghost use Rattle.model.specs.Model.{fabricIn};
+ghost use Rattle.fabric.specs.Questions.{query, limitRight, caresForAll};
+ghost use Rattle.fabric.specs.Run.{runAnswer, runCall};
+
+// ---- questions in turn
+
+// A question's number if it got a no, else what the later questions said.
+fn ask(number: u32, yes: bool, later: u32) -> u32
+    ensures { λ r. ⌜ r ≡ pick yes later number ⌝ }
+{
+    if yes { later } else { number }
+}
+
+fn limit_right(limit: u32) -> bool
+    ensures { λ r. ⌜ r ≡ limitRight limit ⌝ }
+{
+    (1 <= limit) & (limit <= 16)
+}
+
+fn cares_for_all(s: HeaderSet) -> bool
+    ensures { λ r. ⌜ r ≡ caresForAll (setOf s) ⌝ }
+{
+    let c = s.care;
+    (c[0] == 0xffff_ffff) & (c[1] == 0xffff_ffff) & (c[2] == 0xffff_ffff) & (c[3] == 0xffff_ffff)
+}
+
+// Is the port an edge's? By the table of edges.
+fn is_edge(file: &[u8], shape: Shape, edge_of: &[u16; 4096], port: u32) -> bool
+    requires { ⌜ Accepted (now file) shape ⌝ }
+    requires { ⌜ Numbers (recent (portOfEdge (now file)) (shape .edges)) (now «edge_of») ⌝ }
+    ensures { λ r. ⌜ r ≡ fabricIn (now (file .entry)) .isEdge port ⌝ }
+{
+    if 4096 <= port {
+        return false;
+    }
+    0 < edge_of[port as usize]
+}
+
+// ---- the packet run
+
+// The run of a packet on an accepted file, after questions 9 to 12.
+fn run_accepted(
+    file: &[u8],
+    area: &mut [u8],
+    shape: Shape,
+    edge_of: &[u16; 4096],
+    starts: &[u16; 4096],
+    start: u32,
+    limit: u32,
+    budget: u32,
+    asked: HeaderSet,
+) -> u64
+    requires { ⌜ Accepted (now file) shape ⌝ }
+    requires { ⌜ Numbers (recent (portOfEdge (now file)) (shape .edges)) (now «edge_of») ⌝ }
+    requires { ⌜ Numbers (recent (fromOfLink (now file) (shape .edges)) (shape .links)) (now starts) ⌝ }
+    ensures { λ r. ⌜ outcome r (now (area .exit)) ≡ runAnswer (now (file .entry)) (query start limit budget (setOf asked)) (Fabric shape) (now (area .entry)) ⌝ }
+{
+    let tidy = asked.is_tidy();
+    let all = cares_for_all(asked);
+    let edge = is_edge(file, shape, edge_of, start);
+    let room = 96 <= area.len();
+    let no = ask(
+        9,
+        limit_right(limit),
+        ask(10, tidy & all, ask(11, edge, ask(12, room, 0))),
+    );
+    if no != 0 {
+        return no as u64;
+    }
+    let header = asked.value;
+    let j = journey::travel(file, shape, starts, start, limit as usize, header);
+    journey::put(area, j);
+    24 * 256
+}
+
+// The call run.
+pub fn run(
+    file: &[u8],
+    area: &mut [u8],
+    start: u32,
+    limit: u32,
+    budget: u32,
+    asked: HeaderSet,
+) -> u64
+    ensures { λ r. ⌜ outcome r (now (area .exit)) ≡ runCall (now (file .entry)) (query start limit budget (setOf asked)) (now (area .entry)) ⌝ }
+{
+    let mut edge_of = [0u16; 4096];
+    let mut starts = [0u16; 4096];
+    let mut ends = [0u16; 4096];
+    match file::accept(file, &mut edge_of, &mut starts, &mut ends) {
+        Read::No(number, place) => (place as u64) * 256 + (number as u64),
+        Read::Fabric(shape) => run_accepted(
+            file,
+            area,
+            shape,
+            &edge_of,
+            &starts,
+            start,
+            limit,
+            budget,
+            asked,
+        ),
+    }
+}
+
+// ---- what the host links
+
+// The call run, on the file, the area lent and words 1 to 11 of document 01's query.
+#[no_mangle]
+pub extern "C" fn fabric_run(
+    file: &[u8],
+    area: &mut [u8],
+    start: u32,
+    limit: u32,
+    budget: u32,
+    care0: u32,
+    care1: u32,
+    care2: u32,
+    care3: u32,
+    value0: u32,
+    value1: u32,
+    value2: u32,
+    value3: u32,
+) -> u64
+    ensures { λ r. ⌜ outcome r (now (area .exit)) ≡ runCall (now (file .entry)) (query start limit budget (record { care = care0 ∷ care1 ∷ care2 ∷ care3 ∷ []; value = value0 ∷ value1 ∷ value2 ∷ value3 ∷ [] })) (now (area .entry)) ⌝ }
+{
+    run(
+        file,
+        area,
+        start,
+        limit,
+        budget,
+        HeaderSet {
+            care: [care0, care1, care2, care3],
+            value: [value0, value1, value2, value3],
+        },
+    )
+}

@@ -1,0 +1,40 @@
+-- What the crates above say of a file: that it is accepted, and what is known of an edge's and an entry's own bytes then, by themselves.
+-- proofs/Accepted.antt has the laws. Assumes nothing.
+use mathlib.Core.Bool.{true}
+use mathlib.Core.List.{List}
+use mathlib.Core.Path.{_≡_}
+use Prim.Native.Nat.{ℕ, _*_, _≤_, _<_}
+use lib.ListN.{length}
+use Rattle.headers.specs.Sets.{WellFormed, Written, tidy, writes}
+use Rattle.file.specs.File.{headerWords, edgeWords, entryWords, edgePort, edgeAdmitted, entryIn, entryOut, entryMatch, entryRewrite}
+use Rattle.file.specs.Questions.{accepted}
+use Rattle.file.specs.declared.Shape.{Shape}
+use Rattle.file.specs.declared.Read.the-variants.{Fabric}
+
+-- the file is accepted with this shape
+abbrev pub Accepted : List ℕ → Shape → Type 0
+Accepted f s = accepted f ≡ Fabric s
+
+-- the file is accepted and has an edge i
+pub record HasEdge (f : List ℕ) (i : ℕ) : Type 0 where
+  pub shape : Shape
+  pub is-accepted : Accepted f shape
+  pub below : i < shape .edges
+
+-- the 36 bytes of an edge
+pub record Edge (x : List ℕ) : Type 0 where
+  pub long : length x ≡ 4 * edgeWords
+  pub port-low : 1 ≤ edgePort x
+  pub port-high : edgePort x ≤ 4095
+  pub admitted : WellFormed headerWords (edgeAdmitted x)
+
+-- the 72 bytes of an entry
+pub record Entry (x : List ℕ) : Type 0 where
+  pub long : length x ≡ 4 * entryWords
+  pub in-low : 1 ≤ entryIn x
+  pub in-high : entryIn x ≤ 4095
+  pub out-high : entryOut x ≤ 4095
+  pub differ : entryIn x ≡ entryOut x → ⊥
+  pub matches : WellFormed headerWords (entryMatch x)
+  pub rewrites : Written headerWords (entryRewrite x)
+  pub rewrite-tidy : tidy headerWords (writes (entryRewrite x)) ≡ true

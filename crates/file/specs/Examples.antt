@@ -1,0 +1,73 @@
+-- E1 and E7 of document 01, and refusals by each question with its place: a table, computed by the questions. Assumes nothing.
+use mathlib.Core.List.{List, [], _∷_, _++_, map}
+use mathlib.Core.Path.{_≡_, refl}
+use Prim.Native.Nat.{ℕ, zero, suc, _+_, _*_, _/_, _%_}
+use lib.ListN.{replicate, set}
+use Rattle.file.specs.File.{wordAt}
+use Rattle.file.specs.Questions.{shape, accepted, records, passed, asked, inOrder, portsRight, setsTidy, linkFree, withinLimits, sized, started}
+use Rattle.file.specs.declared.Read.{Read}
+use Rattle.file.specs.declared.Read.the-variants.{Fabric, No}
+
+-- words as the file's bytes
+abbrev pub bytesOf : List ℕ → List ℕ
+bytesOf [] = []
+bytesOf (w ∷ ws) = w % 256 ∷ w / 256 % 256 ∷ w / 65536 % 256 ∷ w / 16777216 ∷ bytesOf ws
+
+abbrev eight : List ℕ
+eight = replicate 8 0
+
+-- "Fabric F is accepted (E1), 56 words"
+abbrev pub fabricF : List ℕ
+fabricF =
+    bytesOf ((0x10010038 ∷ []) ++ (0x20007001 ∷ eight) ++ (0x20009002 ∷ eight)
+    ++ (0x40014001 ∷ 0 ∷ 0 ∷ 0 ∷ 3 ∷ 0 ∷ 0 ∷ 0 ∷ 1 ∷ 0 ∷ eight)
+    ++ (0x4000a001 ∷ 2 ∷ 0 ∷ 0xffffffff ∷ 0 ∷ 0 ∷ 0 ∷ 0x0a000002 ∷ 0 ∷ 0 ∷ eight) ++ (0x50000000 ∷ []))
+
+-- n records, made by their number
+abbrev several : ℕ → (ℕ → List ℕ) → List ℕ
+several zero g = []
+several (suc n) g = several n g ++ g n
+
+record Example : Type 0 where
+  file : List ℕ
+  answer : Read
+
+infix 90 _gives_
+abbrev _gives_ : List ℕ → Read → Example
+f gives r = record { file = f; answer = r }
+
+abbrev examples : List Example
+examples =
+    fabricF gives Fabric (shape 2 0 2)
+    ∷ bytesOf (0x10010002 ∷ 0x50000000 ∷ []) gives Fabric (shape 0 0 0)
+    ∷ replicate 4 0 gives No 1 0
+    ∷ replicate 9 0 gives No 1 0
+    ∷ bytesOf (0x10020002 ∷ 0x50000000 ∷ []) gives No 2 0
+    ∷ bytesOf (0x10010003 ∷ 0x50000000 ∷ []) gives No 2 0
+    -- no end; a kind that is none; an edge after a link; an edge that is cut short; zero bits of a link and of an entry; an end too early
+    ∷ bytesOf (0x10010002 ∷ 0x30001002 ∷ []) gives No 3 2
+    ∷ bytesOf (0x10010002 ∷ 0x60000000 ∷ []) gives No 3 1
+    ∷ bytesOf (0x1001000c ∷ 0x30001002 ∷ 0x20001003 ∷ eight ++ (0x50000000 ∷ [])) gives No 3 2
+    ∷ bytesOf (0x10010003 ∷ 0x20001003 ∷ 0x50000000 ∷ []) gives No 3 1
+    ∷ bytesOf (0x10010003 ∷ 0x31001002 ∷ 0x50000000 ∷ []) gives No 3 1
+    ∷ set fabricF (20 * 4 + 2) 1 gives No 3 19
+    ∷ bytesOf (0x10010003 ∷ 0x50000000 ∷ 0x50000000 ∷ []) gives No 3 1
+    -- port 0; edge ports that do not rise; a link from a port to itself; an entry too
+    ∷ set fabricF 4 0 gives No 4 1
+    ∷ set fabricF 40 1 gives No 4 10
+    ∷ bytesOf (0x10010003 ∷ 0x30007007 ∷ 0x50000000 ∷ []) gives No 4 1
+    ∷ set fabricF (20 * 4) 1 gives No 4 19
+    -- a value bit outside care, and a rewrite bit outside the mask, of F's second entry
+    ∷ set fabricF (43 * 4) 1 gives No 5 37
+    ∷ set fabricF (51 * 4) 1 gives No 5 37
+    -- two links that end at port 9; a link that starts, and one that ends, at an edge port
+    ∷ bytesOf (0x10010004 ∷ 0x30001009 ∷ 0x30002009 ∷ 0x50000000 ∷ []) gives No 6 2
+    ∷ bytesOf (0x1001000c ∷ 0x20001003 ∷ eight ++ (0x30003002 ∷ 0x50000000 ∷ [])) gives No 6 10
+    ∷ bytesOf (0x1001000c ∷ 0x20001003 ∷ eight ++ (0x30002003 ∷ 0x50000000 ∷ [])) gives No 6 10
+    -- the 65th edge
+    ∷ bytesOf ((0x1001024b ∷ []) ++ several 65 (λ i. (0x20000001 + i) ∷ eight) ++ (0x50000000 ∷ [])) gives No 7 577
+    ∷ []
+
+as-said : map (λ (x : Example). accepted (x .file)) examples ≡ map (λ (x : Example). x .answer) examples
+unfolding accepted records passed asked inOrder portsRight setsTidy linkFree withinLimits sized started wordAt
+as-said = refl

@@ -1,0 +1,41 @@
+-- Whether an entry that was read is a candidate for a header, and what the search keeps then. Assumes nothing.
+use mathlib.Core.Bool.{Bool, true, false, _&&_, and-false}
+use mathlib.Core.List.{List}
+use mathlib.Core.Path.{_≡_, refl, sym, ap, ap₂, _∙_, subst}
+use Prim.Native.Nat.{ℕ, _+_, _≤_, _<_}
+use native.Mathlib.Omega.{arith}
+use borrow.Author.Tests.{eq-eqb, ne-eqb}
+use lib.Dec.{eqb}
+use Rattle.headers.specs.Sets.{Header, Set, contains}
+use Rattle.file.specs.File.{headerWords, entryIn, entryMatch, entryPriority}
+use Rattle.file.specs.Accepted.{Accepted}
+use Rattle.file.specs.declared.Shape.{Shape}
+use Rattle.forwarding.specs.Fabric.{Fabric, inPortOf, priorityOf, holds}
+use Rattle.forwarding.proofs.Best.{candidate, Best, best-skip, best-keep, best-take}
+use Rattle.model.specs.Model.{fabricIn}
+use Rattle.model.specs.Taking.{Better}
+use Rattle.model.proofs.EntryRead.{EntryRead, words-are}
+
+module _ (f : List ℕ) (s : Shape) (ok : Accepted f s) (x : ℕ) (h : Header) (i : ℕ) (e : List ℕ) (read : EntryRead (fabricIn f) i e) where
+  holds-is : holds (fabricIn f) i h ≡ contains headerWords (entryMatch e) h
+  unfolding holds
+  holds-is = ap (λ (n : ℕ). contains n (fabricIn f .entry i .matches) h) (words-are f s ok) ∙ ap (λ (m : Set). contains headerWords m h) (sym (read .matches))
+
+  pub other-port : (entryIn e ≡ x → ⊥) → candidate (fabricIn f) x h i ≡ false
+  other-port d = ap (λ (b : Bool). b && holds (fabricIn f) i h) (ne-eqb x (inPortOf (fabricIn f) i) (λ q. d (read .in-port ∙ sym q)))
+
+  pub no-match : contains headerWords (entryMatch e) h ≡ false → candidate (fabricIn f) x h i ≡ false
+  no-match d = ap (λ (b : Bool). eqb x (inPortOf (fabricIn f) i) && b) (holds-is ∙ d) ∙ and-false (eqb x (inPortOf (fabricIn f) i))
+
+  pub is-match : entryIn e ≡ x → contains headerWords (entryMatch e) h ≡ true → candidate (fabricIn f) x h i ≡ true
+  is-match p d = ap₂ _&&_ (eq-eqb x (inPortOf (fabricIn f) i) (sym p ∙ read .in-port)) (holds-is ∙ d)
+
+  module _ (b : ℕ) (within : b ≤ fabricIn f .entries) where
+    pub better-skip : candidate (fabricIn f) x h i ≡ false → Better (fabricIn f) x h i b b
+    better-skip d = record { best-then = λ c. best-skip (fabricIn f) x h i b c d; within = within }
+
+    pub better-take : candidate (fabricIn f) x h i ≡ true → (b < fabricIn f .entries → priorityOf (fabricIn f) b < priorityOf (fabricIn f) i) → Better (fabricIn f) x h i b i
+    better-take d p = record { best-then = λ c. best-take (fabricIn f) x h i b c (read .number) d p; within = omega (arith, read .number) }
+
+    pub better-keep : b < fabricIn f .entries → priorityOf (fabricIn f) i ≤ priorityOf (fabricIn f) b → Better (fabricIn f) x h i b b
+    better-keep l p = record { best-then = λ c. best-keep (fabricIn f) x h i b c l p; within = within }

@@ -1,0 +1,4 @@
+pub mod Shapes
+pub mod Soundness
+pub mod EntryRead
+pub mod Candidates

@@ -1,0 +1,78 @@
+-- The fabric that an accepted file describes, as forwarding sees it: document 01, "The fabric file". Assumes nothing.
+use mathlib.Core.List.{List}
+use mathlib.Core.Path.{_≡_}
+use Prim.Native.Nat.{ℕ, zero, suc, _*_}
+use lib.Dec.{ltb}
+use Rattle.headers.specs.Sets.{Set, allWild, noRewrite}
+use Rattle.file.specs.File.{headerWords, edgeGroup, edgeAdmitted, entryPriority, entryIn, entryOut, entryMatch, entryRewrite}
+use Rattle.file.specs.Questions.{pick, shape, accepted}
+use Rattle.file.specs.Accepted.{Accepted}
+use Rattle.file.specs.Records.{placeOf, portOfEdge, fromOfLink, toOfLink, recent, edgeBytes, entryBytes}
+use Rattle.file.specs.Tables.{number}
+use Rattle.file.specs.declared.Shape.{Shape}
+use Rattle.file.specs.declared.Read.{Read}
+use Rattle.file.specs.declared.Read.the-variants.{Fabric, No}
+use Rattle.forwarding.specs.Fabric as Forwarding
+
+-- "A fabric is accepted if 1 to 7 all get a yes."
+pub record AFabric (f : List ℕ) : Type 0 where
+  pub shape : Shape
+  pub is-accepted : Accepted f shape
+
+-- how many records of each kind an accepted file has
+abbrev pub shapeRead : Read → Shape
+shapeRead (Fabric s) = s
+shapeRead (No q p) = shape 0 0 0
+
+unfoldable pub shapeIn : List ℕ → Shape
+shapeIn f = shapeRead (accepted f)
+
+-- what stands under a number that counts from 1; d under 0
+abbrev pub under : {A : Type 0} → A → (ℕ → A) → ℕ → A
+under d g zero = d
+under d g (suc i) = g i
+
+-- the entry with these 72 bytes
+abbrev pub entryFrom : List ℕ → Forwarding.Entry
+entryFrom x = record {
+  priority = entryPriority x;
+  inPort = entryIn x;
+  outPort = entryOut x;
+  matches = entryMatch x;
+  rewrite = entryRewrite x;
+}
+
+-- what a number past the last entry reads as
+abbrev pub noEntry : Forwarding.Entry
+noEntry = record { priority = 0; inPort = 0; outPort = 0; matches = allWild headerWords; rewrite = noRewrite headerWords }
+
+module _ (f : List ℕ) (s : Shape) where
+  -- one more than the number of the edge at a port, of the link that begins there and of the link that ends there; 0 where there is none
+  unfoldable pub edgeAt : ℕ → ℕ
+  edgeAt x = number (recent (portOfEdge f) (s .edges)) x
+
+  unfoldable pub linkBeginning : ℕ → ℕ
+  linkBeginning x = number (recent (fromOfLink f (s .edges)) (s .links)) x
+
+  unfoldable pub linkEnding : ℕ → ℕ
+  linkEnding x = number (recent (toOfLink f (s .edges)) (s .links)) x
+
+  unfoldable pub fabricOf : Forwarding.Fabric
+  fabricOf = record {
+    words = headerWords;
+    entries = s .entries;
+    entry = λ e. pick (ltb e (s .entries)) (entryFrom (entryBytes f s e)) noEntry;
+    isEdge = λ x. ltb 0 (edgeAt x);
+    group = λ x. under 0 (λ i. edgeGroup (edgeBytes f i)) (edgeAt x);
+    admitted = λ x. under (allWild headerWords) (λ i. edgeAdmitted (edgeBytes f i)) (edgeAt x);
+    linkTo = λ x. under 0 (toOfLink f (s .edges)) (linkBeginning x);
+    linkFrom = λ x. under 0 (fromOfLink f (s .edges)) (linkEnding x);
+  }
+
+-- the fabric of a file
+unfoldable pub fabricIn : List ℕ → Forwarding.Fabric
+fabricIn f = fabricOf f (shapeIn f)
+
+-- the byte at which the entries of an accepted file begin
+unfoldable pub entriesAt : List ℕ → ℕ
+entriesAt f = 4 * placeOf (shapeIn f .edges) (shapeIn f .links) 0
