@@ -1,4 +1,4 @@
--- The loop has `EdgesSoFar` in hand; each way out is a law of proofs/Loops.antt.
+-- The loop has `EdgesSoFar` in hand; each way out is a law of proofs/Loops.antt. t is the place after the test of the kind.
 use Rattle.file.proofs.Loops.{EdgesSoFar}
 use Prim.Native.Nat.{_-_}
 use Rattle.file.proofs.Loops as loops
@@ -24,15 +24,13 @@ kind-of-requires c κs = search needs
 
 returns : tie.Need-returns Inv-loop μ-loop
 returns c =
-    let t = c in
-    let s = t .before .before .before .before .loop .inv in
-    (loops.other _ _ _ _ _ _ _ _ (s .so-far) _ _ _ (t .before .before .word .ensures) (t .before .kind-of .ensures) (t .if1 .taken), s .edge-at)
+    let s = c .before .before .before .before .loop .inv in
+    (loops.other _ _ _ _ _ _ _ _ (s .so-far) _ _ _ (c .before .before .word .ensures) (c .before .kind-of .ensures) (c .if1 .taken), s .edge-at)
 
 edge-no-requires : tie.Need-edge-no-requires Inv-loop μ-loop
 edge-no-requires c κs =
-    let t = c in
-    let s = t .before .before .before .before .loop .inv in
-    (loops.here _ _ _ _ _ _ _ _ (s .so-far) _ _ _ (omega arith) (t .before .before .word .ensures) (t .before .kind-of .ensures) (t .if1 .left), (s .so-far .place-is, s .last-is))
+    let s = c .before .before .before .before .loop .inv in
+    (loops.here _ _ _ _ _ _ _ _ (s .so-far) _ _ _ (omega arith) (c .before .before .word .ensures) (c .before .kind-of .ensures) (c .if1 .left), (s .so-far .place-is, s .last-is))
 
 returns-2 : tie.Need-returns-2 Inv-loop μ-loop
 returns-2 c =

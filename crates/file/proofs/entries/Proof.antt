@@ -1,4 +1,4 @@
--- The loop has `EntriesSoFar` in hand; each way out is a law of proofs/Loops.antt.
+-- The loop has `EntriesSoFar` in hand; each way out is a law of proofs/Loops.antt. t is the place after the test of the kind.
 use Rattle.file.proofs.Loops.{EntriesSoFar}
 use Prim.Native.Nat.{_-_}
 use Rattle.file.proofs.Loops as loops
@@ -27,9 +27,8 @@ kind-of-requires c κs = search needs
 
 returns : tie.Need-returns Inv-loop μ-loop
 returns c =
-    let t = c in
-    let s = t .before .before .before .before .loop .inv in
-    loops.other _ _ _ _ _ _ _ _ (s .so-far) _ _ _ (t .before .before .word .ensures) (t .before .kind-of .ensures) (t .if1 .taken)
+    let s = c .before .before .before .before .loop .inv in
+    loops.other _ _ _ _ _ _ _ _ (s .so-far) _ _ _ (c .before .before .word .ensures) (c .before .kind-of .ensures) (c .if1 .taken)
 
 entry-no-requires : tie.Need-entry-no-requires Inv-loop μ-loop
 entry-no-requires c κs =
