@@ -1,0 +1,261 @@
+-- The ways through `stop`: a part that is a find or ends where it stands, and the loop over the entries with its out-port, which are taken
+-- up in file order. Assumes nothing.
+use mathlib.Core.Bool.{Bool, true, false, cond}
+use mathlib.Core.List.{List, [], _∷_, _++_, flatMap}
+use mathlib.Core.Option.{Option, some, Option·elim}
+use mathlib.Core.Path.{_≡_, refl, sym, ap, ap₂, _∙_}
+use Prim.Native.Nat.{ℕ, zero, suc, _+_, _-_, _≤_, _<_}
+use native.Mathlib.Omega.{arith}
+use borrow.Author.Tests.{le-leb, lt-leb, eq-eqb, ne-eqb}
+use lib.Dec.{eqb}
+use lib.ListN.{length, getD, set, drop}
+use Rattle.headers.specs.Bits.{positions, those}
+use Rattle.headers.specs.Sets.{Set}
+use Rattle.headers.specs.Forms.{setOf, maybeOf}
+use Rattle.headers.specs.declared.MaybeSet.{MaybeSet}
+use Rattle.forwarding.specs.Fabric.{outPortOf}
+use Rattle.forwarding.specs.BackTrace.{beaters}
+use Rattle.forwarding.specs.BackTrace as BackTrace
+use Rattle.forwarding.specs.Trace.{Event, unit, find, stop, fromPort, takenUp, carved}
+use Rattle.model.specs.Model.{fabricIn}
+use Rattle.index.specs.Chains.{noEntry}
+use Rattle.index.proofs.Chained.{Next}
+use Rattle.backtrace.specs.Play.{play}
+use Rattle.backtrace.specs.Asked.{budgetOf, floorOf, worldOf, playedOf, foundBy, findAt}
+use Rattle.backtrace.specs.Cycle.{Tracing, Traced, Kept, eventsAt, IsEntry, InChain, backFrom, NextBeater, survivorEvents, eventsFrom, UnitMade, SameCounters}
+use Rattle.backtrace.proofs.Those.{from, from-here, from-end, from-skip}
+use Rattle.backtrace.proofs.Entries.{entries-few, back-is}
+use Rattle.backtrace.proofs.Backs.{maybe-none, maybe-some}
+use Rattle.backtrace.proofs.InChains.{chain-head, chain-next, next-in-chain}
+use Rattle.backtrace.proofs.Beaters.{beaters-all}
+use Rattle.backtrace.proofs.Places.{port-events}
+use Rattle.backtrace.proofs.Steps.{run, play-find, play-on, play-ended, unit-goes-on, unit-ends}
+use Rattle.backtrace.proofs.Paths.{kept-same, kept-on, kept-pushed, pushed-drop}
+use Rattle.backtrace.proofs.Tracings.{after-unit, after-call}
+
+-- ---- where no entry is taken up
+
+-- the part is a find
+pub at-edge : {f ask counters₁ counters : List ℕ} (place d r : ℕ) (path : List ℕ) (t : Set) (counters₀ area₀ area : List ℕ)
+    → 4096 ≤ place → playedOf r counters₁ area ≡ foundBy f ask (findAt f (place - 4096) path d t) (worldOf counters₀ area₀)
+    → SameCounters counters₁ counters → (hops : ℕ) → Traced f ask (eventsAt f place t hops (drop d path)) counters₀ area₀ r counters area
+unfolding eventsAt
+at-edge {f} {ask} place d r path t counters₀ area₀ area l e s hops = record {
+  played =
+      (λ i. record { status = r; world = record { made = s .made i; words = s .words i; area = area } })
+      ∙ e
+      ∙ play-find (budgetOf ask) (foundBy f ask) (findAt f (place - 4096) path d t) (worldOf counters₀ area₀)
+      ∙ ap (λ (es : List Event). run f ask es counters₀ area₀) (sym there);
+  counters-long = s .counters-long;
+}
+  where
+    there : eventsAt f place t hops (drop d path) ≡ find (findAt f (place - 4096) path d t) ∷ []
+    there =
+        ap
+        (λ (b : Bool). cond b (find (findAt f (place - 4096) path d t) ∷ []) (fromPort (fabricIn f) (stop (fabricIn f) hops) place (drop d path) t))
+        (le-leb 4096 place l)
+
+module _ {f ask index : List ℕ} {d : ℕ} {path counters area : List ℕ} (x : Tracing f ask index d path counters area) (place : ℕ) (t : Set) where
+  nothing-played : (es : List Event) → es ≡ [] → Traced f ask es counters area 0 counters area
+  unfolding play
+  nothing-played es e = record {
+    played = ap (λ (es : List Event). run f ask es counters area) (sym e);
+    counters-long = x .room .counters-long;
+  }
+
+  -- no link ends there
+  pub no-link : place ≡ 0 → Traced f ask (eventsAt f place t (d - floorOf ask) (drop d path)) counters area 0 counters area
+  unfolding eventsAt
+  no-link e = nothing-played _ (rw e)
+
+  -- no hop is left
+  pub no-hop : (floor : ℕ) → floor ≡ floorOf ask → d ≤ floor → place < 4096
+      → Traced f ask (eventsAt f place t (d - floorOf ask) (drop d path)) counters area 0 counters area
+  unfolding eventsAt stop
+  no-hop floor e l m =
+      let none-left : d - floorOf ask ≡ 0 = omega arith in
+      nothing-played _ (rw (none-left, lt-leb 4096 place m) (go place))
+    where
+      go : (y : ℕ) → fromPort (fabricIn f) (stop (fabricIn f) 0) y (drop d path) t ≡ []
+      go zero = refl
+      go (suc y) = refl
+
+-- ---- the loop
+
+-- the events that are left where entry e comes next, with so many hops left at its in-port
+unfoldable pub eventsLeft : List ℕ → ℕ → ℕ → List ℕ → Set → ℕ → List Event
+eventsLeft f place hops path t e =
+    flatMap (takenUp (fabricIn f) (stop (fabricIn f) hops) t path) (from (λ c. eqb (outPortOf (fabricIn f) c) place) (fabricIn f .entries) e)
+
+-- entry e comes next: what is left to be played now is what was to be played at first
+pub record AtEntry (f ask index : List ℕ) (place : ℕ) (t : Set) (d : ℕ) (path₀ counters₀ area₀ : List ℕ) (e : ℕ) (path counters area : List ℕ) : Type 0 where
+  pub tracing : Tracing f ask index d path counters area
+  pub hop-left : floorOf ask < d
+  pub in-chain : InChain (outPortOf (fabricIn f)) (fabricIn f .entries) place e
+  pub area-long : length area ≡ length area₀
+  pub kept : Kept d path₀ path
+  pub left :
+      run f ask (eventsLeft f place (d - 1 - floorOf ask) (drop d path₀) t e) counters area
+      ≡ run f ask (eventsAt f place t (d - floorOf ask) (drop d path₀)) counters₀ area₀
+
+-- where the chain goes on, none between has the out-port
+left-skips : (f : List ℕ) (place hops : ℕ) (path : List ℕ) (t : Set) (j r : ℕ) → Next (outPortOf (fabricIn f)) (fabricIn f .entries) place j r
+    → eventsLeft f place hops path t j ≡ eventsLeft f place hops path t r
+unfolding eventsLeft
+left-skips f place hops path t j r n =
+    ap (flatMap (takenUp (fabricIn f) (stop (fabricIn f) hops) t path))
+    (from-skip (λ c. eqb (outPortOf (fabricIn f) c) place) (fabricIn f .entries) j r (n .low) (λ c l m k. ne-eqb _ _ (n .skipped c l m k)))
+
+-- at first all entries are left
+left-at-first : (f : List ℕ) (place hops : ℕ) (path : List ℕ) (t : Set) → stop (fabricIn f) (suc hops) place t path ≡ eventsLeft f place hops path t 0
+unfolding eventsLeft stop
+left-at-first f place hops path t =
+    ap
+    (λ (k : ℕ). flatMap (takenUp (fabricIn f) (stop (fabricIn f) hops) t path) (those (λ e. eqb (outPortOf (fabricIn f) e) place) (positions k 0)))
+    (let whole : fabricIn f .entries ≡ fabricIn f .entries - 0 = omega arith in whole)
+
+-- the loop begins with the first entry of the chain
+pub first-entry : {f ask index : List ℕ} {d : ℕ} {path counters area : List ℕ} → Tracing f ask index d path counters area → (place : ℕ) (t : Set) (floor e : ℕ)
+    → place < 4096 → (place ≡ 0 → ⊥) → floor ≡ floorOf ask → floor < d → e ≡ getD index (4096 + place) 0
+    → AtEntry f ask index place t d path counters area e path counters area
+first-entry {f} {ask} {index} {d} {path} {counters} {area} x place t floor e l nz h m g = record {
+  tracing = x;
+  hop-left = omega arith;
+  in-chain = next-in-chain (entries-few (x .asked .fabric)) n;
+  area-long = refl;
+  kept = kept-same path (x .on-path .long);
+  left =
+      ap (λ (es : List Event). run f ask es counters area)
+      (sym (ap (λ (k : ℕ). eventsAt f place t k (drop d path)) (let one-more : d - floorOf ask ≡ suc hops = omega arith in one-more)
+      ∙ port-events f place (suc hops) (drop d path) t l nz
+      ∙ left-at-first f place hops (drop d path) t
+      ∙ left-skips f place hops (drop d path) t 0 e n));
+}
+  where
+    hops : ℕ
+    hops = d - 1 - floorOf ask
+
+    n : Next (outPortOf (fabricIn f)) (fabricIn f .entries) place 0 e
+    n = chain-head (entries-few (x .asked .fabric)) (x .indexed .by-out-port) place e l g
+
+module _ {f ask index : List ℕ} {place : ℕ} {t : Set} {d : ℕ} {path₀ counters₀ area₀ : List ℕ} {e : ℕ} {path counters area : List ℕ}
+    (x : AtEntry f ask index place t d path₀ counters₀ area₀ e path counters area) where
+  abbrev all-events : List Event
+  all-events = eventsAt f place t (d - floorOf ask) (drop d path₀)
+
+  -- the hops left at an entry's in-port, and the events that are left from an entry on
+  abbrev hops : ℕ
+  hops = d - 1 - floorOf ask
+
+  abbrev left-from : ℕ → List Event
+  left-from j = eventsLeft f place hops (drop d path₀) t j
+
+  few : fabricIn f .entries ≤ noEntry
+  few = entries-few (x .tracing .asked .fabric)
+
+  -- the chain ends
+  pub entries-end : noEntry ≤ e → Traced f ask all-events counters₀ area₀ 0 counters area
+  unfolding eventsLeft play flatMap
+  entries-end l = record {
+    played =
+        ap (λ (es : List ℕ). run f ask (flatMap (takenUp (fabricIn f) (stop (fabricIn f) hops) t (drop d path₀)) es) counters area)
+        (sym (from-end (λ c. eqb (outPortOf (fabricIn f) c) place) (fabricIn f .entries) e (let z = few in omega arith)))
+        ∙ x .left;
+    counters-long = x .tracing .room .counters-long;
+  }
+
+  -- the events of entry e after its unit, by what it takes back
+  abbrev taken : Option Set → List Event
+  taken o = Option·elim o [] (carved (fabricIn f) (survivorEvents f e hops (e ∷ drop d path₀)) (beaters (fabricIn f) e))
+
+  -- what keeps the path with e on it keeps the path
+  pub kept-under : {path₁ : List ℕ} → path₁ ≡ set path (d - 1) e → {path₂ : List ℕ} → Kept (d - 1) path₁ path₂ → Kept d path path₂
+  kept-under h k = kept-pushed path d e (let z = x .hop-left in omega arith) (x .tracing .on-path .long) (rw h at k)
+
+  module _ (l : e < noEntry) where
+    next-entry : {n : ℕ} → n ≡ getD index (12288 + e) 0 → Next (outPortOf (fabricIn f)) (fabricIn f .entries) place (suc e) n
+    next-entry {n} g = rw (x .in-chain .has-port l) at (chain-next few (x .tracing .indexed .by-out-port) e n (x .in-chain .is-entry l) g)
+
+    pub later-entry : {n : ℕ} → n ≡ getD index (12288 + e) 0 → e < n
+    later-entry g = next-entry g .low
+
+    left-is : left-from e ≡ unit ∷ (taken (BackTrace.back (fabricIn f) e t) ++ left-from (suc e))
+    unfolding eventsLeft flatMap takenUp
+    left-is =
+        ap (flatMap (takenUp (fabricIn f) (stop (fabricIn f) hops) t (drop d path₀)))
+        (from-here (λ c. eqb (outPortOf (fabricIn f) c) place) (fabricIn f .entries) e (x .in-chain .is-entry l) (eq-eqb _ _ (x .in-chain .has-port l)))
+
+    module _ {made : Bool} {counters₁ : List ℕ} (u : UnitMade ask counters made counters₁) where
+      -- the budget is used
+      pub entry-refused : made ≡ false → Traced f ask all-events counters₀ area₀ 1 counters₁ area
+      entry-refused h = record {
+        played = unit-ends (foundBy f ask) u area _ h ∙ ap (λ (es : List Event). run f ask es counters area) (sym left-is) ∙ x .left;
+        counters-long = u .counters-long;
+      }
+
+      module _ (h : made ≡ true) {y : List ℕ} (i : IsEntry f e y) {m : MaybeSet} (back : m ≡ maybeOf (backFrom y t)) where
+        -- after its unit
+        after-its-unit : run f ask (taken (backFrom y t) ++ left-from (suc e)) counters₁ area ≡ run f ask all-events counters₀ area₀
+        after-its-unit =
+            unit-goes-on (foundBy f ask) u area _ h
+            ∙ ap (λ (o : Option Set). run f ask (unit ∷ (taken o ++ left-from (suc e))) counters area) (sym (back-is (x .tracing .asked .fabric) i t))
+            ∙ ap (λ (es : List Event). run f ask es counters area) (sym left-is)
+            ∙ x .left
+
+        -- it takes nothing back
+        pub entry-empty : m .some ≡ false → {n : ℕ} → n ≡ getD index (12288 + e) 0 → AtEntry f ask index place t d path₀ counters₀ area₀ n path counters₁ area
+        unfolding Option·elim
+        entry-empty z {n} g = record {
+          tracing = after-unit (x .tracing) u;
+          hop-left = x .hop-left;
+          in-chain = next-in-chain few (next-entry g);
+          area-long = x .area-long;
+          kept = x .kept;
+          left =
+              ap (λ (es : List Event). run f ask es counters₁ area) (sym (left-skips f place hops (drop d path₀) t (suc e) n (next-entry g)))
+              ∙ ap (λ (o : Option Set). run f ask (taken o ++ left-from (suc e)) counters₁ area) (sym (maybe-none (backFrom y t) m back z))
+              ∙ after-its-unit;
+        }
+
+        -- it takes a set back, which is carved with the entry on the path
+        module _ (some-back : m .some ≡ true) {path₁ : List ℕ} (pushed : path₁ ≡ set path (d - 1) e) {b : ℕ} (first : NextBeater (fabricIn f) e 0 b)
+            {r : ℕ} {counters₂ area₂ : List ℕ}
+            (w : Traced f ask (eventsFrom f e b hops (drop (d - 1) path₁) (setOf (m .set))) counters₁ area r counters₂ area₂) where
+          path-begins : drop (d - 1) path₁ ≡ e ∷ drop d path₀
+          path-begins =
+              ap (drop (d - 1)) pushed
+              ∙ pushed-drop path d e (let z = x .hop-left in omega arith) (x .tracing .on-path .long) (x .tracing .on-path .within)
+              ∙ ap (λ (p : List ℕ). e ∷ p) (x .kept .later)
+
+          entry-events : eventsFrom f e b hops (drop (d - 1) path₁) (setOf (m .set)) ≡ taken (backFrom y t)
+          unfolding eventsFrom Option·elim
+          entry-events =
+              ap₂ (λ (p bs : List ℕ). carved (fabricIn f) (survivorEvents f e hops p) bs (setOf (m .set)))
+              path-begins (sym (beaters-all first))
+              ∙ ap taken (sym (maybe-some (backFrom y t) m back some-back))
+
+          played : playedOf r counters₂ area₂ ≡ run f ask (taken (backFrom y t)) counters₁ area
+          played = w .played ∙ ap (λ (es : List Event). run f ask es counters₁ area) entry-events
+
+          pub entry-ended : (r ≡ 0 → ⊥) → Traced f ask all-events counters₀ area₀ r counters₂ area₂
+          entry-ended nz = record {
+            played =
+                play-ended (budgetOf ask) (foundBy f ask) (taken (backFrom y t)) (left-from (suc e)) (worldOf counters₁ area) (worldOf counters₂ area₂) r nz played
+                ∙ after-its-unit;
+            counters-long = w .counters-long;
+          }
+
+          pub entry-through : r ≡ 0 → {n : ℕ} → n ≡ getD index (12288 + e) 0 → {path₂ : List ℕ} → Kept (d - 1) path₁ path₂ → length area₂ ≡ length area
+              → AtEntry f ask index place t d path₀ counters₀ area₀ n path₂ counters₂ area₂
+          entry-through z {n} g {path₂} k a = record {
+            tracing = after-call (after-unit (x .tracing) u) w (kept-under pushed k) a;
+            hop-left = x .hop-left;
+            in-chain = next-in-chain few (next-entry g);
+            area-long = a ∙ x .area-long;
+            kept = kept-on (x .kept) (kept-under pushed k);
+            left =
+                ap (λ (es : List Event). run f ask es counters₂ area₂) (sym (left-skips f place hops (drop d path₀) t (suc e) n (next-entry g)))
+                ∙ play-on (budgetOf ask) (foundBy f ask) (taken (backFrom y t)) (left-from (suc e)) (worldOf counters₁ area) (worldOf counters₂ area₂)
+                (ap (λ (s : ℕ). playedOf s counters₂ area₂) (sym z) ∙ played)
+                ∙ after-its-unit;
+          }

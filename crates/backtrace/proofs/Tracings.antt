@@ -1,0 +1,55 @@
+-- What the trace has in hand stays in hand: after a unit, after a call, and with an entry put on the path. Assumes nothing.
+use mathlib.Core.Bool.{Bool}
+use mathlib.Core.List.{List}
+use mathlib.Core.Path.{_≡_, ap, _∙_}
+use Prim.Native.Nat.{ℕ, _-_, _<_}
+use native.Mathlib.Omega.{arith}
+use lib.ListN.{length, set}
+use Rattle.forwarding.specs.Trace.{Event}
+use Rattle.backtrace.specs.Play.{Played}
+use Rattle.backtrace.specs.Asked.{budgetOf, floorOf, baseOf, worldOf, foundBy}
+use Rattle.backtrace.specs.Cycle.{EntriesFrom, Tracing, Traced, Kept, UnitMade}
+use Rattle.backtrace.proofs.Budgets.{found-makes-none, play-within, unit-within}
+use Rattle.backtrace.proofs.Paths.{path-kept, path-pushed}
+
+module _ {f ask index : List ℕ} {d : ℕ} {path counters area : List ℕ} (t : Tracing f ask index d path counters area) where
+  pub entries-from : {base : ℕ} → base ≡ baseOf ask → EntriesFrom f base
+  entries-from h = record { fabric = t .asked .fabric; base-is = h ∙ t .asked .base-is }
+
+  pub after-unit : {made : Bool} {counters′ : List ℕ} → UnitMade ask counters made counters′ → Tracing f ask index d path counters′ area
+  after-unit u = record {
+    asked = t .asked;
+    indexed = t .indexed;
+    above-floor = t .above-floor;
+    on-path = t .on-path;
+    room = record {
+      counters-long = u .counters-long;
+      made-within = rw (ap (λ (p : Played). p .world .made) (u .played area)) (unit-within (budgetOf ask) (worldOf counters area) (t .room .made-within));
+      verdict-room = t .room .verdict-room;
+    };
+  }
+
+  pub after-call : {events : List Event} {r : ℕ} {path′ counters′ area′ : List ℕ} → Traced f ask events counters area r counters′ area′
+      → Kept d path path′ → length area′ ≡ length area → Tracing f ask index d path′ counters′ area′
+  after-call {events} x k l = record {
+    asked = t .asked;
+    indexed = t .indexed;
+    above-floor = t .above-floor;
+    on-path = path-kept (t .on-path) k;
+    room = record {
+      counters-long = x .counters-long;
+      made-within =
+          rw (ap (λ (p : Played). p .world .made) (x .played))
+          (play-within (budgetOf ask) (foundBy f ask) (found-makes-none f ask) events (worldOf counters area) (t .room .made-within));
+      verdict-room = λ m. rw l (t .room .verdict-room m);
+    };
+  }
+
+  pub after-push : {e : ℕ} {path′ : List ℕ} → floorOf ask < d → e < 512 → path′ ≡ set path (d - 1) e → Tracing f ask index (d - 1) path′ counters area
+  after-push {e} below l h = record {
+    asked = t .asked;
+    indexed = t .indexed;
+    above-floor = omega arith;
+    on-path = rw h (path-pushed path d e (omega arith) (t .on-path .long) (t .on-path) l);
+    room = t .room;
+  }

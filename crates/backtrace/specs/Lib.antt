@@ -1,0 +1,3 @@
+pub mod Play
+pub mod Asked
+pub mod Cycle

@@ -1,0 +1,24 @@
+-- The index of an accepted file, which is made once a call so that no stop walks all entries to find its own, and no trial all entries to
+-- find the next beater. Assumes nothing.
+use mathlib.Core.Bool.{cond}
+use mathlib.Core.List.{List}
+use mathlib.Core.Path.{_≡_}
+use Prim.Native.Nat.{ℕ, _+_, _<_}
+use lib.ListN.{length, getD}
+use Rattle.forwarding.specs.Fabric as Forwarding
+use Rattle.forwarding.specs.Fabric.{inPortOf, outPortOf}
+use Rattle.model.specs.Model.{fabricIn, shapeIn, edgeAt}
+use Rattle.index.specs.Chains.{Chain}
+
+-- where a part at an in-port comes from: 4,096 + k at edge k, else the from-port of the link that ends there, else 0
+unfoldable pub placeAt : List ℕ → ℕ → ℕ
+placeAt f x = cond (fabricIn f .isEdge x) (4095 + edgeAt f (shapeIn f) x) (fabricIn f .linkFrom x)
+
+-- cells 0 to 4,095 by port: where a part at this in-port comes from
+-- 4,096 to 8,191 by port: the first entry with this out-port; 8,192 to 12,287: the first with this in-port
+-- 12,288 to 12,799 by entry: the next with its out-port; 12,800 to 13,311: the next with its in-port
+pub record Index (f cells : List ℕ) : Type 0 where
+  pub long : length cells ≡ 13312
+  pub places : (x : ℕ) → x < 4096 → getD cells x 0 ≡ placeAt f x
+  pub by-out-port : Chain (fabricIn f .entries) (outPortOf (fabricIn f)) 4096 12288 0 cells
+  pub by-in-port : Chain (fabricIn f .entries) (inPortOf (fabricIn f)) 8192 12800 0 cells

@@ -1,0 +1,110 @@
+// The index of an accepted file, made once a call: see specs/Index.antt.
+use file::Shape;
+ghost use mathlib.Core.Path.{_≡_};
+ghost use Prim.Native.Nat.{suc, _-_, _≤_, _<_};
+ghost use Rattle.file.specs.Accepted.{Accepted};
+ghost use Rattle.file.specs.Records.{portOfEdge, fromOfLink, toOfLink, recent};
+ghost use Rattle.file.specs.Tables.{Numbers};
+ghost use Rattle.index.specs.Index.{Index, placeAt};
+ghost use Rattle.index.specs.Building.{Placed, Partly, pushed};
+
+// The from-port of the link with the number l, which counts from 1.
+fn from_port(file: &[u8], shape: Shape, l: u16) -> u16
+    requires { ⌜ Accepted (now file) shape ⌝ }
+    requires { ⌜ 1 ≤ l ⌝ }
+    requires { ⌜ l ≤ shape .links ⌝ }
+    ensures { λ r. ⌜ r ≡ fromOfLink (now (file .entry)) (shape .edges) (l - 1) ⌝ }
+{
+    file::link_from(file, shape, (l - 1) as usize) as u16
+}
+
+// Where a part at in-port x comes from. The tables' numbers count from 1, so 4,095 more is 4,096 + k at edge k.
+fn place(file: &[u8], shape: Shape, edge_of: &[u16; 4096], ends: &[u16; 4096], x: usize) -> u16
+    requires { ⌜ Accepted (now file) shape ⌝ }
+    requires { ⌜ Numbers (recent (portOfEdge (now file)) (shape .edges)) (now «edge_of») ⌝ }
+    requires { ⌜ Numbers (recent (toOfLink (now file) (shape .edges)) (shape .links)) (now ends) ⌝ }
+    requires { ⌜ x < 4096 ⌝ }
+    ensures { λ r. ⌜ r ≡ placeAt (now (file .entry)) x ⌝ }
+{
+    let k = edge_of[x];
+    if k != 0 {
+        return 4095 + k;
+    }
+    let l = ends[x];
+    if l == 0 {
+        return 0;
+    }
+    from_port(file, shape, l)
+}
+
+// The places, over an array that holds 'no entry' everywhere.
+fn places(
+    file: &[u8],
+    shape: Shape,
+    edge_of: &[u16; 4096],
+    ends: &[u16; 4096],
+    index: &mut [u16; 13312],
+)
+    requires { ⌜ Accepted (now file) shape ⌝ }
+    requires { ⌜ Numbers (recent (portOfEdge (now file)) (shape .edges)) (now «edge_of») ⌝ }
+    requires { ⌜ Numbers (recent (toOfLink (now file) (shape .edges)) (shape .links)) (now ends) ⌝ }
+    requires { ⌜ Placed (now file) 0 (now index) ⌝ }
+    ensures { λ _. ⌜ Placed (now (file .entry)) 4096 (now (index .exit)) ⌝ }
+{
+    let mut x: usize = 0;
+    while x < 4096 {
+        index[x] = place(file, shape, edge_of, ends, x);
+        x += 1;
+    }
+}
+
+// Entry e goes to the front of a chain.
+fn push(index: &mut [u16; 13312], first: usize, next: usize, e: usize)
+    requires { ⌜ first < 13312 ⌝ }
+    requires { ⌜ next < 13312 ⌝ }
+    requires { ⌜ e < 512 ⌝ }
+    ensures { λ _. ⌜ now (index .exit) ≡ pushed (now (index .entry)) first next e ⌝ }
+{
+    index[next] = index[first];
+    index[first] = e as u16;
+}
+
+// Entry e goes to the front of its two chains.
+fn chain_entry(file: &[u8], shape: Shape, e: usize, index: &mut [u16; 13312])
+    requires { ⌜ Accepted (now file) shape ⌝ }
+    requires { ⌜ e < shape .entries ⌝ }
+    requires { ⌜ Partly (now file) (suc e) (now index) ⌝ }
+    ensures { λ _. ⌜ Partly (now (file .entry)) e (now (index .exit)) ⌝ }
+{
+    let x = file::entry(file, shape, e);
+    let out = file::out_port(x) as usize;
+    let into = file::in_port(x) as usize;
+    push(index, 4096 + out, 12288 + e, e);
+    push(index, 8192 + into, 12800 + e, e);
+}
+
+// The chains, from the last entry to the first, so that each runs in file order.
+fn chains(file: &[u8], shape: Shape, index: &mut [u16; 13312])
+    requires { ⌜ Accepted (now file) shape ⌝ }
+    requires { ⌜ Partly (now file) (shape .entries) (now index) ⌝ }
+    ensures { λ _. ⌜ Index (now (file .entry)) (now (index .exit)) ⌝ }
+{
+    let mut e = shape.entries;
+    while 0 < e {
+        e -= 1;
+        chain_entry(file, shape, e, index);
+    }
+}
+
+// The index of an accepted file, from its tables of edges and of link ends.
+pub fn build(file: &[u8], shape: Shape, edge_of: &[u16; 4096], ends: &[u16; 4096]) -> [u16; 13312]
+    requires { ⌜ Accepted (now file) shape ⌝ }
+    requires { ⌜ Numbers (recent (portOfEdge (now file)) (shape .edges)) (now «edge_of») ⌝ }
+    requires { ⌜ Numbers (recent (toOfLink (now file) (shape .edges)) (shape .links)) (now ends) ⌝ }
+    ensures { λ r. ⌜ Index (now (file .entry)) r ⌝ }
+{
+    let mut index = [512u16; 13312];
+    places(file, shape, edge_of, ends, &mut index);
+    chains(file, shape, &mut index);
+    index
+}
