@@ -2,3 +2,8 @@ pub mod Lookups
 pub mod Sixteen
 pub mod Hops
 pub mod Asking
+pub mod Passing
+pub mod MoreAsked
+pub mod Judging
+pub mod Listing
+pub mod Demands

@@ -7,10 +7,12 @@ use native.Mathlib.Omega.{arith}
 use lib.Dec.{ltb}
 use lib.ListN.{getD}
 use Rattle.headers.proofs.Booleans.{refuted}
+use Rattle.file.specs.File.{edgeGroup}
 use Rattle.file.specs.Accepted.{Accepted}
-use Rattle.file.specs.Records.{portOfEdge, fromOfLink, toOfLink, recent}
+use Rattle.file.specs.Records.{portOfEdge, fromOfLink, toOfLink, recent, edgeBytes}
 use Rattle.file.specs.Tables.{Numbers}
 use Rattle.file.specs.declared.Shape.{Shape}
+use Rattle.file.proofs.Accepted.{edge-port-low}
 use Rattle.file.proofs.Lists.{number-has}
 use Rattle.forwarding.specs.Fabric as Forwarding
 use Rattle.model.specs.Model.{under, edgeAt, linkBeginning, fabricOf, fabricIn}
@@ -26,6 +28,29 @@ module _ (f : List ℕ) (s : Shape) (ok : Accepted f s) where
   pub edge-looked-up : (t : List ℕ) → Numbers (recent (portOfEdge f) (s .edges)) t → (x : ℕ) → x < 4096 → ltb 0 (getD t x 0) ≡ fabricIn f .isEdge x
   unfolding fabricOf edgeAt
   edge-looked-up t T x l = ap (ltb 0) (T .holds x l) ∙ sym (ap (λ (F : Forwarding.Fabric). F .isEdge x) (fabric-is f s ok))
+
+  -- the edge at an edge port
+  pub record EdgeFound (t : List ℕ) (x : ℕ) : Type 0 where
+    pub edge : ℕ
+    pub below : edge < s .edges
+    pub numbered : getD t x 0 ≡ suc edge
+    pub low : 1 ≤ x
+    pub high : x < 4096
+    pub group-is : fabricIn f .group x ≡ edgeGroup (edgeBytes f edge)
+
+  pub edge-found : (t : List ℕ) → Numbers (recent (portOfEdge f) (s .edges)) t → (x : ℕ) → fabricIn f .isEdge x ≡ true → EdgeFound t x
+  unfolding fabricOf edgeAt
+  edge-found t T x e =
+      let d = edge-there f s x (ap (λ (F : Forwarding.Fabric). F .isEdge x) (sym (fabric-is f s ok)) ∙ e) in
+      let high : x < 4096 = omega (arith, d .port-is) in
+      record {
+        edge = d .number-then;
+        below = d .below;
+        numbered = T .holds x high ∙ d .at-is;
+        low = omega (arith, d .port-is, edge-port-low f s ok (d .number-then) (d .below));
+        high = high;
+        group-is = ap (λ (F : Forwarding.Fabric). F .group x) (fabric-is f s ok) ∙ ap (under 0 (λ i. edgeGroup (edgeBytes f i))) (d .at-is);
+      }
 
   module _ (t : List ℕ) (T : Numbers (recent (fromOfLink f (s .edges)) (s .links)) t) (x : ℕ) (l : x < 4096) where
     link-under : fabricIn f .linkTo x ≡ under 0 (toOfLink f (s .edges)) (getD t x 0)

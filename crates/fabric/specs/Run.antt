@@ -15,6 +15,10 @@ use Rattle.fabric.specs.Questions.{Query, limitRight, askedTidy, caresFo
 unfoldable pub packetWords : Packet → List ℕ
 packetWords p = fateOf p ∷ 0 ∷ portOf p ∷ hopsMade p ∷ (headerOf p ++ sixteen (entriesTaken p))
 
+-- the packet that a query asks for: every bit of its header is cared for, so the header is the asked value
+abbrev pub packetRun : Forwarding.Fabric → Query → Packet
+packetRun F q = run F (q .limit) (q .port) (q .asked .value)
+
 -- the questions after 1 to 7, in turn
 abbrev pub runQuestions : Forwarding.Fabric → Query → List ℕ → List Question
 runQuestions F q area =
@@ -25,13 +29,9 @@ runQuestions F q area =
     ∷ []
 
 module _ (f : List ℕ) (q : Query) where
-  -- the packet that is run: every bit of its header is cared for, so the header is the asked value
-  abbrev pub packetRun : Packet
-  packetRun = run (fabricIn f) (q .limit) (q .port) (q .asked .value)
-
   abbrev pub runAnswer : Read → List ℕ → Outcome
   runAnswer (No number place) area = refused number place area
-  runAnswer (Fabric s) area = orRefused (firstNo (runQuestions (fabricIn f) q area)) area (answered (packetWords packetRun) area)
+  runAnswer (Fabric s) area = orRefused (firstNo (runQuestions (fabricIn f) q area)) area (answered (packetWords (packetRun (fabricIn f) q)) area)
 
   -- what the call run returns and leaves in the area
   unfoldable pub runCall : List ℕ → Outcome

@@ -1,6 +1,7 @@
 // The calls that the runtime's host makes: document 01, "The runtime's host, in Rust, makes these calls on byte slices and numbers".
 // Each asks document 01's questions in turn, and returns place × 256 + number; after a no every lent byte is as it was.
 mod journey;
+mod trace;
 
 use file::Read;
 use file::Shape;
@@ -8,17 +9,21 @@ use headers::HeaderSet;
 ghost use mathlib.Core.Path.{_≡_};
 ghost use mathlib.Core.Bool.{_&&_};
 ghost use mathlib.Core.List.{[], _∷_};
-ghost use Prim.Native.Nat.{_+_, _*_, _<_};
+ghost use Prim.Native.Nat.{_+_, _*_, _<_, _≤_};
+ghost use lib.ListN.{length};
 ghost use Rattle.headers.specs.Forms.{setOf};
-ghost use Rattle.answer.specs.Answer.{outcome};
+ghost use Rattle.answer.specs.Answer.{outcome, writtenAt};
 ghost use Rattle.file.specs.Accepted.{Accepted};
 ghost use Rattle.file.specs.Questions.{pick};
-ghost use Rattle.file.specs.Records.{portOfEdge, fromOfLink, recent};
+ghost use Rattle.file.specs.Records.{portOfEdge, fromOfLink, toOfLink, recent};
 ghost use Rattle.file.specs.Tables.{Numbers};
 ghost use Rattle.file.specs.declared.Read.the-variants.{Fabric};
+ghost use Rattle.forwarding.specs.Verdict.{isolated};
 ghost use Rattle.model.specs.Model.{fabricIn};
 ghost use Rattle.fabric.specs.Questions.{query, limitRight, caresForAll};
 ghost use Rattle.fabric.specs.Run.{runAnswer, runCall};
+ghost use Rattle.fabric.specs.Verdict.{verdictWords, verdictAnswer, verdictCall};
+ghost use Rattle.fabric.specs.List.{listAnswer, listCall};
 
 // ---- questions in turn
 
@@ -121,6 +126,189 @@ pub fn run(
     }
 }
 
+// ---- the verdict
+
+// The words of 'isolated'.
+fn put_isolated(area: &mut [u8], units: u32)
+    requires { ⌜ 96 ≤ length (now area) ⌝ }
+    ensures { λ _. ⌜ now (area .exit) ≡ writtenAt 0 (verdictWords (isolated units)) (now (area .entry)) ⌝ }
+{
+    let mut words = [0u32; 24];
+    words[1] = units;
+    answer::put_words(area, 0, &words);
+}
+
+// The verdict on an accepted file, after questions 8 to 12.
+fn verdict_accepted(
+    file: &[u8],
+    area: &mut [u8],
+    shape: Shape,
+    edge_of: &[u16; 4096],
+    ends: &[u16; 4096],
+    target: u32,
+    limit: u32,
+    budget: u32,
+    asked: HeaderSet,
+) -> u64
+    requires { ⌜ Accepted (now file) shape ⌝ }
+    requires { ⌜ Numbers (recent (portOfEdge (now file)) (shape .edges)) (now «edge_of») ⌝ }
+    requires { ⌜ Numbers (recent (toOfLink (now file) (shape .edges)) (shape .links)) (now ends) ⌝ }
+    ensures { λ r. ⌜ outcome r (now (area .exit)) ≡ verdictAnswer (now (file .entry)) (query target limit budget (setOf asked)) (Fabric shape) (now (area .entry)) ⌝ }
+{
+    let edge = is_edge(file, shape, edge_of, target);
+    let tidy = asked.is_tidy();
+    let room = 96 <= area.len();
+    let no = ask(
+        8,
+        edge,
+        ask(9, limit_right(limit), ask(10, tidy, ask(12, room, 0))),
+    );
+    if no != 0 {
+        return no as u64;
+    }
+    let index = index::build(file, shape, edge_of, ends);
+    let p = trace::pass(
+        file,
+        area,
+        shape,
+        edge_of,
+        &index,
+        trace::JUDGE,
+        target,
+        limit,
+        budget,
+        asked,
+    );
+    if p.status == 1 {
+        return 13;
+    }
+    if p.status == 2 {
+        return 24 * 256;
+    }
+    put_isolated(area, p.made as u32);
+    24 * 256
+}
+
+// The call verdict.
+pub fn verdict(
+    file: &[u8],
+    area: &mut [u8],
+    target: u32,
+    limit: u32,
+    budget: u32,
+    asked: HeaderSet,
+) -> u64
+    ensures { λ r. ⌜ outcome r (now (area .exit)) ≡ verdictCall (now (file .entry)) (query target limit budget (setOf asked)) (now (area .entry)) ⌝ }
+{
+    let mut edge_of = [0u16; 4096];
+    let mut starts = [0u16; 4096];
+    let mut ends = [0u16; 4096];
+    match file::accept(file, &mut edge_of, &mut starts, &mut ends) {
+        Read::No(number, place) => (place as u64) * 256 + (number as u64),
+        Read::Fabric(shape) => verdict_accepted(
+            file,
+            area,
+            shape,
+            &edge_of,
+            &ends,
+            target,
+            limit,
+            budget,
+            asked,
+        ),
+    }
+}
+
+// ---- the list
+
+// The list on an accepted file, after questions 8 to 10: the words are counted, and written where there is room for all of them.
+fn list_accepted(
+    file: &[u8],
+    area: &mut [u8],
+    shape: Shape,
+    edge_of: &[u16; 4096],
+    ends: &[u16; 4096],
+    target: u32,
+    limit: u32,
+    budget: u32,
+    asked: HeaderSet,
+) -> u64
+    requires { ⌜ Accepted (now file) shape ⌝ }
+    requires { ⌜ Numbers (recent (portOfEdge (now file)) (shape .edges)) (now «edge_of») ⌝ }
+    requires { ⌜ Numbers (recent (toOfLink (now file) (shape .edges)) (shape .links)) (now ends) ⌝ }
+    ensures { λ r. ⌜ outcome r (now (area .exit)) ≡ listAnswer (now (file .entry)) (query target limit budget (setOf asked)) (Fabric shape) (now (area .entry)) ⌝ }
+{
+    let edge = is_edge(file, shape, edge_of, target);
+    let tidy = asked.is_tidy();
+    let no = ask(8, edge, ask(9, limit_right(limit), ask(10, tidy, 0)));
+    if no != 0 {
+        return no as u64;
+    }
+    let index = index::build(file, shape, edge_of, ends);
+    let counted = trace::pass(
+        file,
+        area,
+        shape,
+        edge_of,
+        &index,
+        trace::COUNT,
+        target,
+        limit,
+        budget,
+        asked,
+    );
+    if counted.status != 0 {
+        return 13;
+    }
+    let room = (area.len() / 4) as u64;
+    if room < counted.words {
+        return 12;
+    }
+    trace::pass(
+        file,
+        area,
+        shape,
+        edge_of,
+        &index,
+        trace::LIST,
+        target,
+        limit,
+        budget,
+        asked,
+    );
+    counted.words * 256
+}
+
+// The call list.
+pub fn list(
+    file: &[u8],
+    area: &mut [u8],
+    target: u32,
+    limit: u32,
+    budget: u32,
+    asked: HeaderSet,
+) -> u64
+    ensures { λ r. ⌜ outcome r (now (area .exit)) ≡ listCall (now (file .entry)) (query target limit budget (setOf asked)) (now (area .entry)) ⌝ }
+{
+    let mut edge_of = [0u16; 4096];
+    let mut starts = [0u16; 4096];
+    let mut ends = [0u16; 4096];
+    match file::accept(file, &mut edge_of, &mut starts, &mut ends) {
+        Read::No(number, place) => (place as u64) * 256 + (number as u64),
+        Read::Fabric(shape) => list_accepted(
+            file,
+            area,
+            shape,
+            &edge_of,
+            &ends,
+            target,
+            limit,
+            budget,
+            asked,
+        ),
+    }
+}
+
 // ---- what the host links
 
 // The call run, on the file, the area lent and words 1 to 11 of document 01's query.
@@ -146,6 +334,70 @@ pub extern "C" fn fabric_run(
         file,
         area,
         start,
+        limit,
+        budget,
+        HeaderSet {
+            care: [care0, care1, care2, care3],
+            value: [value0, value1, value2, value3],
+        },
+    )
+}
+
+// The call verdict, on the file, the area lent and words 1 to 11 of document 01's query.
+#[no_mangle]
+pub extern "C" fn fabric_verdict(
+    file: &[u8],
+    area: &mut [u8],
+    target: u32,
+    limit: u32,
+    budget: u32,
+    care0: u32,
+    care1: u32,
+    care2: u32,
+    care3: u32,
+    value0: u32,
+    value1: u32,
+    value2: u32,
+    value3: u32,
+) -> u64
+    ensures { λ r. ⌜ outcome r (now (area .exit)) ≡ verdictCall (now (file .entry)) (query target limit budget (record { care = care0 ∷ care1 ∷ care2 ∷ care3 ∷ []; value = value0 ∷ value1 ∷ value2 ∷ value3 ∷ [] })) (now (area .entry)) ⌝ }
+{
+    verdict(
+        file,
+        area,
+        target,
+        limit,
+        budget,
+        HeaderSet {
+            care: [care0, care1, care2, care3],
+            value: [value0, value1, value2, value3],
+        },
+    )
+}
+
+// The call list, on the file, the area lent and words 1 to 11 of document 01's query.
+#[no_mangle]
+pub extern "C" fn fabric_list(
+    file: &[u8],
+    area: &mut [u8],
+    target: u32,
+    limit: u32,
+    budget: u32,
+    care0: u32,
+    care1: u32,
+    care2: u32,
+    care3: u32,
+    value0: u32,
+    value1: u32,
+    value2: u32,
+    value3: u32,
+) -> u64
+    ensures { λ r. ⌜ outcome r (now (area .exit)) ≡ listCall (now (file .entry)) (query target limit budget (record { care = care0 ∷ care1 ∷ care2 ∷ care3 ∷ []; value = value0 ∷ value1 ∷ value2 ∷ value3 ∷ [] })) (now (area .entry)) ⌝ }
+{
+    list(
+        file,
+        area,
+        target,
         limit,
         budget,
         HeaderSet {

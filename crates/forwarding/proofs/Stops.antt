@@ -1,11 +1,16 @@
 -- Where the verdict stops along the events, and the units made by then. Assumes nothing.
-use mathlib.Core.List.{List, [], _∷_, _++_, List·Memᴰ, List·Memᴰ·not-nil, List·Memᴰ·cases-cons}
+use mathlib.Core.Bool.{Bool, true, false, cond}
+use mathlib.Core.List.{List, [], _∷_, _++_, head?, List·Memᴰ, List·Memᴰ·not-nil, List·Memᴰ·cases-cons}
 use mathlib.Core.Logic.{_⊎_, inl, inr}
 use mathlib.Core.Option.{Option, some, none, Option·map, Option·getD}
-use mathlib.Core.Path.{_≡_, refl, ap, _∙_}
+use mathlib.Core.Path.{_≡_, refl, sym, ap, _∙_}
 use Prim.Native.Nat.{ℕ, suc, _+_}
 use native.Mathlib.Omega.{arith}
-use Rattle.headers.specs.Sets.{Header}
+use lib.Dec.{eqb}
+use lib.ListN.{length}
+use Rattle.headers.specs.Sets.{Header, Set, lowest}
+use Rattle.headers.specs.Carving.{carve}
+use Rattle.headers.proofs.Positions.{words-long}
 use Rattle.forwarding.specs.Fabric.{Fabric}
 use Rattle.forwarding.specs.Trace.{Find, Event, unit, find, units, finds}
 use Rattle.forwarding.specs.Verdict.{Verdict, isolated, reached, foreignPacket, verdict}
@@ -99,3 +104,19 @@ module _ (f : Fabric) (target : ℕ) where
         path = cc;
         packet = c ∙ ap some (let z : k ≡ h = cc in z);
       }
+
+  -- the packet has as many words as a header of the fabric
+  packet-long : (d : Find) (h : Header) → foreignPacket f target d ≡ some h → length h ≡ f .words
+  unfolding foreignPacket
+  packet-long d h e = go (eqb (f .group (d .port)) (f .group target)) (head? (carve (f .words) (d .set) (f .admitted (d .port)))) e
+    where
+      lowest-long : (s : Set) → lowest (f .words) s ≡ h → length h ≡ f .words
+      lowest-long s q = ap length (sym q) ∙ words-long (f .words) _
+
+      go : (b : Bool) (o : Option Set) → cond b (Option·map (lowest (f .words)) o) (some (lowest (f .words) (d .set))) ≡ some h → length h ≡ f .words
+      go true none e = let z : _≡_ {A = ℕ} 0 1 = cc in absurd (omega arith)
+      go true (some s) e = lowest-long s cc
+      go false o e = lowest-long (d .set) cc
+
+  pub reached-long : (es : List Event) (v p : ℕ) (q : List ℕ) (h : Header) → verdict f target 0 es ≡ reached v p q h → length h ≡ f .words
+  reached-long es v p q h e = let r = reached-events es 0 v p q h e in packet-long (r .at) h (r .packet)

@@ -53,12 +53,12 @@ word-of zero f w l = absurd (omega arith)
 word-of (suc n) f zero l = refl
 word-of (suc n) f (suc w) l = word-of n (λ v. f (suc v)) w (omega arith)
 
-length-of : (n : ℕ) (f : ℕ → ℕ) → length (words n f) ≡ n
-length-of zero f = refl
-length-of (suc n) f = ap suc (length-of n (λ v. f (suc v)))
+pub words-long : (n : ℕ) (f : ℕ → ℕ) → length (words n f) ≡ n
+words-long zero f = refl
+words-long (suc n) f = ap suc (words-long n (λ v. f (suc v)))
 
 pub words-fit : (n : ℕ) (f : ℕ → ℕ) → ((w : ℕ) → w < n → f w < 2 ^ 32) → Words n (words n f)
-words-fit n f h = record { long = length-of n f; fits = λ w l. rw (word-of n f w l) (h w l) }
+words-fit n f h = record { long = words-long n f; fits = λ w l. rw (word-of n f w l) (h w l) }
 
 -- an array of the code
 pub array-words : (n : ℕ) (l : List ℕ) → length l ≡ n → ((w : ℕ) → Fits w32 (word l w)) → Words n l

@@ -9,6 +9,8 @@ use Rattle.answer.specs.Answer.{Outcome, refused}
 use Rattle.file.specs.File.{wordAt, setFrom, headerWords}
 use Rattle.file.specs.Questions.{pick}
 use Rattle.fabric.specs.Questions.{Query, query}
+use Rattle.fabric.specs.Verdict.{verdictCall}
+use Rattle.fabric.specs.List.{listCall}
 use Rattle.fabric.specs.Run.{runCall}
 
 -- "(1 verdict, 2 list, 3 run; target or start; hop limit; budget, unused by a run; care; value)"
@@ -24,7 +26,7 @@ queryWords = 4 + 2 * headerWords
 
 -- the call that word 0 names, if there is one
 unfoldable pub callNamed : ℕ → Option (List ℕ → Query → List ℕ → Outcome)
-callNamed call = pick (eqb call 3) (some runCall) none
+callNamed call = pick (eqb call 1) (some verdictCall) (pick (eqb call 2) (some listCall) (pick (eqb call 3) (some runCall) none))
 
 abbrev pub madeOr : Option (List ℕ → Query → List ℕ → Outcome) → List ℕ → List ℕ → Outcome
 madeOr none input area = refused 14 0 area

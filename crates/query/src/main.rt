@@ -43,6 +43,12 @@ fn call(input: &[u8], area: &mut [u8]) -> u64
     let budget = file::word(input, 3);
     let set = asked(input);
     let fabric = &input[48..];
+    if number == 1 {
+        return fabric::verdict(fabric, area, port, limit, budget, set);
+    }
+    if number == 2 {
+        return fabric::list(fabric, area, port, limit, budget, set);
+    }
     if number == 3 {
         return fabric::run(fabric, area, port, limit, budget, set);
     }

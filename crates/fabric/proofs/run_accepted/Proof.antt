@@ -97,9 +97,9 @@ same-length c = search needs
 returns-2 : tie.Need-returns-2
 returns-2 c =
     let s = c .before .before .before .before .before .before .before .before .before .before .before .before .before .before .before .before .before in
-    yes-answered _ _ (packetWords (packetRun (now (s .args .file)) (query (s .args .start) (s .args .limit) (s .args .budget) (setOf (s .args .asked))))) (now (s .args .area)) _
+    yes-answered _ _ (packetWords (packetRun (fabricIn (now (s .args .file))) (query (s .args .start) (s .args .limit) (s .args .budget) (setOf (s .args .asked))))) (now (s .args .area)) _
     (sym (asked (c .before .before .before .before .before .before .before)) ∙ c .before .before .before .before .before .before .if1 .left)
-    (words-are-24 (packetRun (now (s .args .file)) (query (s .args .start) (s .args .limit) (s .args .budget) (setOf (s .args .asked)))) (c .before .before .before .before .travel .result) (c .before .before .before .before .travel .ensures) (four (c .before .before .before .before)))
+    (words-are-24 (packetRun (fabricIn (now (s .args .file))) (query (s .args .start) (s .args .limit) (s .args .budget) (setOf (s .args .asked)))) (c .before .before .before .before .travel .result) (c .before .before .before .before .travel .ensures) (four (c .before .before .before .before)))
     (c .before .before .put .ensures ∙ ap (λ (l : List ℕ). writtenAt 0 l (now (s .args .area))) (ap journeyWords (c .before .before .before .before .travel .ensures) ∙ words-same _))
 
 pub run-accepted-spec : {M : Type 1} → statement M

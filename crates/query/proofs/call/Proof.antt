@@ -1,16 +1,40 @@
 -- `call` meets its contract: question 14 is asked first, and the call that word 0 names is made. Assumes nothing.
-use mathlib.Core.Path.{sym, _∙_}
+use mathlib.Core.Bool.{false}
+use mathlib.Core.List.{List}
+use mathlib.Core.Option.{some}
+use mathlib.Core.Path.{_≡_, refl, sym, ap, _∙_}
+use Prim.Native.Nat.{ℕ, _-_}
 use borrow.Author.Needs.{needs}
-use borrow.Author.Tests.{lt-leb, le-leb, eq-eqb, ne-eqb}
+use borrow.Author.Tests.{lt-leb, le-leb, ne-eqb}
 use denote.Ref.{now}
-use lib.ListN.{length}
-use Rattle.answer.specs.Answer.{refused}
+use lib.Dec.{eqb}
+use lib.ListN.{length, take, drop}
+use Rattle.headers.specs.Forms.{setOf}
+use Rattle.answer.specs.Answer.{Outcome, refused}
 use Rattle.file.specs.File.{wordAt}
+use Rattle.fabric.specs.Questions.{Query, query}
+use Rattle.fabric.specs.Verdict.{verdictCall}
+use Rattle.fabric.specs.List.{listCall}
 use Rattle.fabric.specs.Run.{runCall}
 use Rattle.query.specs.Program.{programCall, callNamed}
 use Rattle.query.proofs.Calls.{call-made}
 use Rattle.query.proofs.call.Statement.{statement}
 use Rattle.query.proofs.call.Tie as tie
+
+-- the call of number k, made on the words read, is the program's where the number read is k
+made : (c : tie.After-asked) (k : ℕ) (call : List ℕ → Query → List ℕ → Outcome) (out : Outcome) → let s = c .before .before .before .before .before .before .before .before in
+    c .before .before .before .before .word .result ≡ k → callNamed k ≡ some call
+    → out ≡ call (take (length (now (s .args .input)) - 48) (drop 48 (now (s .args .input)))) (query (c .before .before .before .word2 .result) (c .before .before .word3 .result) (c .before .word4 .result) (setOf (c .asked .result))) (now (s .args .area))
+    → out ≡ programCall (now (s .args .input)) (now (s .args .area))
+made c k call out is-k named =
+    let s = c .before .before .before .before .before .before .before .before in
+    call-made (now (s .args .input)) (now (s .args .area)) call _ _ _ _ out (c .before .before .before .before .before .if1 .left)
+    (ap callNamed (sym (c .before .before .before .before .word .ensures) ∙ is-k) ∙ named)
+    (c .before .before .before .word2 .ensures) (c .before .before .word3 .ensures) (c .before .word4 .ensures) (c .asked .ensures)
+
+-- where the number read is not k, word 0 is not k
+not-named : (c : tie.After-asked) (k : ℕ) → (c .before .before .before .before .word .result ≡ k → ⊥) → eqb (wordAt (now (c .before .before .before .before .before .before .before .before .args .input)) 0) k ≡ false
+not-named c k other = ne-eqb _ k (λ q. other (c .before .before .before .before .word .ensures ∙ q))
 
 returns : tie.Need-returns
 unfolding programCall refused
@@ -40,24 +64,42 @@ part-fabric-start c = search needs
 part-fabric-end : tie.Need-part-fabric-end
 part-fabric-end c = search needs
 
-run-requires : tie.Need-run-requires
-run-requires c κs = search needs
+verdict-requires : tie.Need-verdict-requires
+verdict-requires c κs = search needs
 
 same-length : tie.Need-same-length
 same-length c = search needs
 
 returns-2 : tie.Need-returns-2
 unfolding callNamed
-returns-2 c =
-    call-made (now (c .before .before .before .before .before .before .before .before .before .before .before .before .before .before .args .input)) (now (c .before .before .before .before .before .before .before .before .before .before .before .before .before .before .args .area)) runCall _ _ _ _ _ (c .before .before .before .before .before .before .before .before .before .before .before .if1 .left)
-    (rw (eq-eqb _ 3 (sym (c .before .before .before .before .before .before .before .before .before .before .word .ensures) ∙ c .before .before .before .before .if2 .taken)))
-    (c .before .before .before .before .before .before .before .before .before .word2 .ensures) (c .before .before .before .before .before .before .before .before .word3 .ensures) (c .before .before .before .before .before .before .before .word4 .ensures) (c .before .before .before .before .before .before .asked .ensures) (c .before .before .run .ensures)
+returns-2 c = made (c .before .before .before .before .before .before) 1 verdictCall _ (c .before .before .before .before .if2 .taken) refl (c .before .before .verdict .ensures)
+
+list-requires : tie.Need-list-requires
+list-requires c κs = search needs
+
+same-length-2 : tie.Need-same-length-2
+same-length-2 c = search needs
 
 returns-3 : tie.Need-returns-3
+unfolding callNamed
+returns-3 c = made (c .before .before .before .before .before .before .before) 2 listCall _ (c .before .before .before .before .if3 .taken) refl (c .before .before .list .ensures)
+
+run-requires : tie.Need-run-requires
+run-requires c κs = search needs
+
+same-length-3 : tie.Need-same-length-3
+same-length-3 c = search needs
+
+returns-4 : tie.Need-returns-4
+unfolding callNamed
+returns-4 c = made (c .before .before .before .before .before .before .before .before) 3 runCall _ (c .before .before .before .before .if4 .taken) refl (c .before .before .run .ensures)
+
+returns-5 : tie.Need-returns-5
 unfolding programCall callNamed refused
-returns-3 c =
-    let s = c .before .before .before .before .before .before .before .before .before .before in
-    rw (le-leb 48 (length (now (s .args .input))) (c .before .before .before .before .before .before .before .if1 .left), ne-eqb (wordAt (now (s .args .input)) 0) 3 (λ q. c .if2 .left (c .before .before .before .before .before .before .word .ensures ∙ q)))
+returns-5 c =
+    let a = c .before .before .before .before in
+    let input = now (a .before .before .before .before .before .before .before .before .args .input) in
+    rw (le-leb 48 (length input) (a .before .before .before .before .before .if1 .left), not-named a 1 (c .before .before .if2 .left), not-named a 2 (c .before .if3 .left), not-named a 3 (c .if4 .left))
 
 pub call-spec : {M : Type 1} → statement M
 call-spec =
@@ -72,7 +114,13 @@ call-spec =
     sub-fabric
     part-fabric-start
     part-fabric-end
-    run-requires
+    verdict-requires
     same-length
     returns-2
-    returns-3)
+    list-requires
+    same-length-2
+    returns-3
+    run-requires
+    same-length-3
+    returns-4
+    returns-5)

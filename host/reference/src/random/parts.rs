@@ -18,7 +18,7 @@ pub(super) fn some_ports(rng: &mut Rng, number: usize) -> Vec<u16> {
         .iter()
         .position(|&port| usize::from(port) == PORTS - 1);
     if let (Some(last), true) = (last, rng.once_in(3)) {
-        ports.swap(last, rng.below(number));
+        ports.swap(last, rng.below(number.min(PORTS - 1)));
     }
     ports.truncate(number);
     ports

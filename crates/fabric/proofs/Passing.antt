@@ -1,0 +1,57 @@
+-- One pass of the back-trace: what `stop` needs at the target with the limit, and that what it leaves is the pass. Assumes nothing.
+use mathlib.Core.List.{List, [], _∷_}
+use mathlib.Core.Path.{_≡_, sym, ap, ap₂, _∙_}
+use Prim.Native.Nat.{ℕ, _-_, _≤_, _<_}
+use native.Mathlib.Omega.{arith}
+use lib.ListN.{length, getD, replicate}
+use Rattle.headers.specs.Sets.{Set}
+use Rattle.file.specs.Accepted.{Accepted}
+use Rattle.file.specs.declared.Shape.{Shape}
+use Rattle.forwarding.specs.Trace.{Event, stop, trace}
+use Rattle.model.specs.Model.{fabricIn, entriesAt}
+use Rattle.index.specs.Index.{Index}
+use Rattle.backtrace.specs.Play.{play}
+use Rattle.backtrace.specs.Asked.{byMode, foundBy}
+use Rattle.backtrace.specs.Cycle.{Tracing, Traced, IsPlace, eventsAt}
+use Rattle.backtrace.proofs.Places.{port-events}
+use Rattle.fabric.specs.Tracing.{begin, playedThen, passOf}
+
+-- the six numbers of a pass
+abbrev pub asks : (budget mode limit target group base : ℕ) → List ℕ
+asks budget mode limit target group base = budget ∷ mode ∷ (16 - limit) ∷ target ∷ group ∷ base ∷ []
+
+module _
+    (f : List ℕ)
+    (s : Shape)
+    (ok : Accepted f s)
+    (budget mode limit target group base : ℕ)
+    (limit-low : 1 ≤ limit)
+    (limit-high : limit ≤ 16)
+  where
+    abbrev ask : List ℕ
+    ask = asks budget mode limit target group base
+
+    -- with no unit made and no entry on the path
+    pub tracing : (index area : List ℕ) → Index f index → group ≡ fabricIn f .group target → base ≡ entriesAt f → (mode ≡ 3 → 96 ≤ length area)
+        → Tracing f ask index 16 (replicate 16 0) (replicate 2 0) area
+    tracing index area I g b room = record {
+      asked = record { fabric = record { shape = s; is-accepted = ok }; floor-low = omega arith; group-is = g; base-is = b };
+      indexed = I;
+      above-floor = omega arith;
+      on-path = record { long = omega arith; within = omega arith; entries = λ k l h. absurd (omega arith) };
+      room = record { counters-long = omega arith; made-within = omega arith; verdict-room = room };
+    }
+
+    -- "The first stop is the target with the limit."
+    first-stop : 1 ≤ target → target < 4096 → (t : Set) → eventsAt f target t (16 - (16 - limit)) [] ≡ trace (fabricIn f) limit target t
+    first-stop low high t =
+        port-events f target (16 - (16 - limit)) [] t high (λ z. omega arith)
+        ∙ ap (λ (hops : ℕ). stop (fabricIn f) hops target t []) (let e : 16 - (16 - limit) ≡ limit = omega arith in e)
+
+    pub passed : (t : Set) (area counters last : List ℕ) (r : ℕ) → 1 ≤ target → target < 4096
+        → Traced f ask (eventsAt f target t (16 - (16 - limit)) []) (replicate 2 0) area r counters last
+        → playedThen (record { status = r; made = getD counters 0 0; words = getD counters 1 0 }) last ≡ passOf f mode target limit budget t area
+    unfolding foundBy
+    passed t area counters last r low high T =
+        T .played
+        ∙ ap (λ (es : List Event). play budget (byMode mode f target) es (begin area)) (first-stop low high t)

@@ -1,0 +1,33 @@
+-- `entries_at` meets its contract: an accepted file's shape is small, and the entries stand after the edges and the links. Assumes nothing.
+use mathlib.Core.Path.{_≡_}
+use native.Mathlib.Omega.{arith}
+use denote.Ref.{now}
+use Rattle.file.proofs.Accepted.{few-edges, few-links}
+use Rattle.model.specs.Model.{entriesAt}
+use Rattle.model.proofs.Shapes.{shape-is}
+use Rattle.fabric.proofs.trace.entries_at.Statement.{statement}
+use Rattle.fabric.proofs.trace.entries_at.Tie as tie
+
+mul-result : tie.Need-mul-result
+mul-result c = let s = c .before in omega (arith, few-edges _ _ (s .pre))
+
+add-result : tie.Need-add-result
+add-result c = let s = c .before in omega (arith, few-edges _ _ (s .pre))
+
+mul-result-2 : tie.Need-mul-result-2
+mul-result-2 c = let s = c .before .before in omega (arith, few-links _ _ (s .pre))
+
+add-result-2 : tie.Need-add-result-2
+add-result-2 c = let s = c .before .before in omega (arith, few-edges _ _ (s .pre), few-links _ _ (s .pre))
+
+cast-result : tie.Need-cast-result
+cast-result c = let s = c .before .before in omega (arith, few-edges _ _ (s .pre), few-links _ _ (s .pre))
+
+returns : tie.Need-returns
+unfolding entriesAt
+returns c =
+    let s = c .before .before in
+    rw (shape-is (now (s .args .file)) (s .args .shape) (s .pre)) (omega arith)
+
+pub entries-at-spec : {M : Type 1} → statement M
+entries-at-spec = tie.close (tie.spec mul-result add-result mul-result-2 add-result-2 cast-result returns)

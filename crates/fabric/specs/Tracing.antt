@@ -1,0 +1,21 @@
+-- What one pass of the back-trace promises. Assumes nothing.
+use mathlib.Core.List.{List}
+use mathlib.Core.Path.{_≡_}
+use Prim.Native.Nat.{ℕ, _≤_}
+use Rattle.headers.specs.Sets.{Set}
+use Rattle.forwarding.specs.Trace.{trace}
+use Rattle.model.specs.Model.{fabricIn}
+use Rattle.backtrace.specs.Play.{World, Played, play}
+use Rattle.backtrace.specs.Asked.{byMode}
+use Rattle.fabric.specs.declared.trace.Passed.{Passed}
+
+-- nothing is made or counted yet
+abbrev pub begin : List ℕ → World
+begin area = record { made = 0; words = 0; area = area }
+
+abbrev pub playedThen : Passed → List ℕ → Played
+playedThen p area = record { status = p .status; world = record { made = p .made; words = p .words; area = area } }
+
+-- the events of the back-trace, played in a mode
+abbrev pub passOf : List ℕ → ℕ → ℕ → ℕ → ℕ → Set → List ℕ → Played
+passOf f mode target limit budget asked area = play budget (byMode mode f target) (trace (fabricIn f) limit target asked) (begin area)

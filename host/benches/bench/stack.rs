@@ -1,0 +1,88 @@
+//! The stack that a call takes, from the pages of a thread's stack that have
+//! been touched after it. The library takes no other memory.
+
+use std::fs::File;
+use std::io::{Read, Seek, SeekFrom};
+use std::sync::atomic::{AtomicUsize, Ordering};
+use std::thread;
+
+use crate::to_host;
+use mwishovala::raw;
+use reference::file::write;
+use reference::random::deep_ring;
+use reference::Query;
+
+const PAGE: usize = 4096;
+
+pub fn table() {
+    println!("{:<32} {:>10} {:>10}", "stack", "product", "reference");
+    let ring = deep_ring();
+    let file = write(&ring.fabric);
+    let packet = Query {
+        port: 1,
+        care: [u32::MAX; 4],
+        ..ring.query
+    };
+    row("run, 512 entries", &packet, &file, raw::run, reference::run);
+    {
+        let deepest = "16 hops of 63 beaters";
+        let (verdict, list) = (format!("verdict, {deepest}"), format!("list, {deepest}"));
+        row(
+            &verdict,
+            &ring.query,
+            &file,
+            raw::verdict,
+            reference::verdict,
+        );
+        row(&list, &ring.query, &file, raw::list, reference::list);
+    }
+    println!("The library takes no other memory.\n");
+}
+
+type Product = fn(&[u8], &mut [u8], &mwishovala::Query) -> u64;
+type Reference = fn(&[u8], &mut [u8], &Query) -> u64;
+
+fn row(name: &str, query: &Query, file: &[u8], product: Product, reference: Reference) {
+    let asked = to_host(query);
+    let mut area = vec![0; 1 << 20];
+    let product = stack_of(|| product(file, &mut area, &asked));
+    let mut area = vec![0; 1 << 20];
+    let reference = stack_of(|| reference(file, &mut area, query));
+    let (product, reference) = (in_words(product), in_words(reference));
+    println!("{name:<32} {product:>10} {reference:>10}");
+}
+
+fn in_words(bytes: Option<usize>) -> String {
+    bytes.map_or("unknown".into(), |bytes| format!("{} KiB", bytes / 1024))
+}
+
+/// The stack below the caller's frame that a call has touched, in whole pages.
+fn stack_of(call: impl FnOnce() -> u64 + Send) -> Option<usize> {
+    // Each thread has more stack than the last, so that none gets an old one.
+    static SIZE: AtomicUsize = AtomicUsize::new(2 << 20);
+    let size = SIZE.fetch_add(64 * PAGE, Ordering::Relaxed);
+    let measure = move || {
+        let here = 0_u8;
+        let page = &here as *const u8 as usize / PAGE;
+        assert_eq!(call() % 256, 0);
+        lowest_touched(page, size).map(|lowest| (page - lowest) * PAGE)
+    };
+    thread::scope(|scope| {
+        let thread = thread::Builder::new().stack_size(size);
+        thread.spawn_scoped(scope, measure).ok()?.join().ok()?
+    })
+}
+
+/// The lowest page in memory, of those that a stack of this size has below
+/// this page.
+fn lowest_touched(page: usize, size: usize) -> Option<usize> {
+    // The thread's own frames stand above the page.
+    let bottom = page - (size / PAGE - 32);
+    let mut map = File::open("/proc/self/pagemap").ok()?;
+    map.seek(SeekFrom::Start(bottom as u64 * 8)).ok()?;
+    let mut marks = vec![0; (page - bottom + 1) * 8];
+    map.read_exact(&mut marks).ok()?;
+    // The two upper bits of a page's mark: in memory, or swapped out.
+    let touched = marks.chunks(8).position(|mark| mark[7] >> 6 != 0)?;
+    Some(bottom + touched)
+}

@@ -1,0 +1,61 @@
+/* The proved fabric library, for hosts in C or with a C interface.
+ *
+ * Each call reads the file, writes at most the area lent and nothing else, takes
+ * no memory but its stack, and returns place * 256 + number. On success the
+ * number is 0 and the place is the count of little-endian 32-bit words written
+ * to the area; bytes past those stay. Else the number is that of the question
+ * that got a no, 1 to 13, the place is the number of the record's first word in
+ * the file or 0, and every byte of the area stays.
+ *
+ * The care and value words are the asked header set; for a run, the packet's
+ * header, with every care bit set. A header has four words: nw_src; nw_dst;
+ * tp_src (high 16 bits) and tp_dst; dl_vlan (high 16), nw_tos (8), nw_proto.
+ */
+#ifndef MWISHOVALA_H
+#define MWISHOVALA_H
+
+#include <stddef.h>
+#include <stdint.h>
+
+#ifdef __cplusplus
+extern "C" {
+#endif
+
+/* The bytes that a verdict or a run needs: 24 words. */
+#define FABRIC_ANSWER_BYTES 96
+
+/* The number of the question that got a no, or 0, and the place. */
+#define FABRIC_NUMBER(code) ((unsigned)((code) % 256))
+#define FABRIC_PLACE(code) ((uint64_t)(code) / 256)
+
+/* Is the target isolated? 24 words: 0 isolated or 1 reached; units made; edge
+ * port; hops; header (4); entries in travelling order (16). */
+uint64_t fabric_verdict(const uint8_t *file, size_t file_len,
+                        uint8_t *area, size_t area_len,
+                        uint32_t target, uint32_t limit, uint32_t budget,
+                        uint32_t care0, uint32_t care1, uint32_t care2, uint32_t care3,
+                        uint32_t value0, uint32_t value1, uint32_t value2, uint32_t value3);
+
+/* Every find in order: a word of kind 6 (bits 27..12 hops, 11..0 edge port); for
+ * each entry in travelling order a word of kind 7 with its number below; care
+ * (4); value (4). Kinds are in bits 31..28. */
+uint64_t fabric_list(const uint8_t *file, size_t file_len,
+                     uint8_t *area, size_t area_len,
+                     uint32_t target, uint32_t limit, uint32_t budget,
+                     uint32_t care0, uint32_t care1, uint32_t care2, uint32_t care3,
+                     uint32_t value0, uint32_t value1, uint32_t value2, uint32_t value3);
+
+/* One packet's way. 24 words: fate (0 left, 1 dropped, 2 lost, 3 still
+ * travelling); 0; port; hops; header then (4); entries taken (16). The budget is
+ * unused. */
+uint64_t fabric_run(const uint8_t *file, size_t file_len,
+                    uint8_t *area, size_t area_len,
+                    uint32_t start, uint32_t limit, uint32_t budget,
+                    uint32_t care0, uint32_t care1, uint32_t care2, uint32_t care3,
+                    uint32_t value0, uint32_t value1, uint32_t value2, uint32_t value3);
+
+#ifdef __cplusplus
+}
+#endif
+
+#endif

@@ -1,0 +1,139 @@
+//! `mwishovala audit`: every edge port as the target, and who reaches whom.
+
+mod progress;
+mod report;
+
+use std::sync::atomic::{AtomicUsize, Ordering};
+use std::thread;
+
+use super::arguments::Audit;
+use super::foreign::Share;
+use super::{Failure, Outcome, ISOLATED, NO_ANSWER, REACHED};
+use crate::calls::{list_growing, verdict};
+use crate::fabric::Fabric;
+use crate::finds::Finds;
+use crate::query::Query;
+use crate::record::Edge;
+use crate::refusal::{Question, Refusal};
+use crate::verdict::Verdict;
+use progress::Progress;
+
+/// The most bytes that one target's list may take.
+const MOST_AREA: usize = 64 << 20;
+
+/// What is known of one target.
+struct Row {
+    target: Edge,
+    verdict: Result<Verdict, Refusal>,
+    senders: Result<Senders, Refusal>,
+}
+
+/// The edge ports whose packets get out at a target, rising.
+#[derive(Default)]
+struct Senders {
+    foreign: Vec<u16>,
+    own: Vec<u16>,
+}
+
+pub(super) fn audit(audit: &Audit) -> Result<Outcome, Failure> {
+    let (file, fabric) = audit.file.fabric()?;
+    let rows = examine(&file, &fabric, &audit.query, audit.jobs);
+    if let Some(refusal) = refused_for_all(&rows) {
+        return Err(audit.file.refused(refusal.clone()));
+    }
+    let status = if rows.iter().any(|row| row.verdict.is_err()) {
+        NO_ANSWER
+    } else if rows.iter().any(Row::is_reached) {
+        REACHED
+    } else {
+        ISOLATED
+    };
+    Ok(match audit.json {
+        true => Outcome::json(report::in_json(&rows), status),
+        false => Outcome::text(report::in_words(&rows), status),
+    })
+}
+
+/// A refusal that has nothing to do with the target.
+fn refused_for_all(rows: &[Row]) -> Option<&Refusal> {
+    let refusal = rows.first()?.verdict.as_ref().err()?;
+    matches!(refusal.question, Question::Hops | Question::Asked).then_some(refusal)
+}
+
+/// The rows of all edge ports, in their order.
+fn examine(file: &[u8], fabric: &Fabric, query: &Query, jobs: usize) -> Vec<Row> {
+    let next = AtomicUsize::new(0);
+    let progress = Progress::new(fabric.edges.len());
+    let work = || {
+        let (mut rows, mut area) = (Vec::new(), Vec::new());
+        while let Some(target) = fabric.edges.get(next.fetch_add(1, Ordering::Relaxed)) {
+            rows.push(Row::examine(file, fabric, target, query, &mut area));
+            progress.step();
+        }
+        rows
+    };
+    let mut rows = thread::scope(|scope| {
+        let others: Vec<_> = (1..jobs)
+            .filter_map(|_| thread::Builder::new().spawn_scoped(scope, work).ok())
+            .collect();
+        let mut rows = work();
+        rows.extend(
+            others
+                .into_iter()
+                .filter_map(|other| other.join().ok())
+                .flatten(),
+        );
+        rows
+    });
+    progress.end();
+    rows.sort_by_key(|row| row.target.port);
+    rows
+}
+
+impl Row {
+    fn examine(
+        file: &[u8],
+        fabric: &Fabric,
+        target: &Edge,
+        query: &Query,
+        area: &mut Vec<u8>,
+    ) -> Row {
+        let query = Query {
+            port: u32::from(target.port),
+            ..*query
+        };
+        let finds = list_growing(file, area, MOST_AREA, &query);
+        Row {
+            target: *target,
+            verdict: verdict(file, &query),
+            senders: finds.map(|finds| Senders::of(finds, fabric, target)),
+        }
+    }
+
+    fn is_reached(&self) -> bool {
+        matches!(self.verdict, Ok(Verdict::Reached { .. }))
+    }
+}
+
+impl Senders {
+    fn of(finds: Finds, fabric: &Fabric, target: &Edge) -> Senders {
+        let mut senders = Senders::default();
+        for find in finds {
+            let Some(edge) = fabric.edge(find.port) else {
+                continue;
+            };
+            let share = Share::of(&find, edge, target);
+            if share.has_foreign() {
+                senders.foreign.push(find.port);
+            }
+            if share.has_own() {
+                senders.own.push(find.port);
+            }
+        }
+        for ports in [&mut senders.foreign, &mut senders.own] {
+            ports.sort_unstable();
+            ports.dedup();
+        }
+        senders
+    }
+}

@@ -1,0 +1,92 @@
+//! Files read and written: `show` and `pack`.
+
+use std::ffi::{OsStr, OsString};
+use std::fs::File;
+use std::io::{self, Read};
+
+use super::{Failure, Outcome};
+use crate::fabric::Fabric;
+use crate::refusal::{Question, Refusal};
+use crate::text;
+
+/// Longer input is no fabric and no text of one.
+const MOST_BYTES: u64 = 16 << 20;
+
+/// A file's name, or - for standard input.
+pub(super) struct Source(pub(super) OsString);
+
+impl Source {
+    pub(super) fn name(&self) -> String {
+        match self.is_standard() {
+            true => "standard input".into(),
+            false => self.0.to_string_lossy().into_owned(),
+        }
+    }
+
+    fn is_standard(&self) -> bool {
+        self.0 == "-"
+    }
+
+    pub(super) fn read(&self) -> Result<Vec<u8>, Failure> {
+        let mut bytes = Vec::new();
+        let read = match self.is_standard() {
+            true => io::stdin().take(MOST_BYTES + 1).read_to_end(&mut bytes),
+            false => File::open(&self.0)
+                .and_then(|file| file.take(MOST_BYTES + 1).read_to_end(&mut bytes)),
+        };
+        match read {
+            Err(error) => Err(self.failed(&error.to_string())),
+            Ok(length) if length as u64 > MOST_BYTES => Err(self.failed("it is far too long")),
+            Ok(_) => Ok(bytes),
+        }
+    }
+
+    fn failed(&self, why: &str) -> Failure {
+        Failure::Error(format!("{}: {why}", self.name()))
+    }
+
+    /// The file's bytes and records, if the proved library accepts it.
+    pub(super) fn fabric(&self) -> Result<(Vec<u8>, Fabric), Failure> {
+        let bytes = self.read()?;
+        match Fabric::read(&bytes) {
+            Ok(fabric) => Ok((bytes, fabric)),
+            Err(refusal) if looks_like_text(&bytes, &refusal) => {
+                Err(self.failed(&format!("{refusal}; it looks like text: pack it first")))
+            }
+            Err(refusal) => Err(self.refused(refusal)),
+        }
+    }
+
+    pub(super) fn refused(&self, refusal: Refusal) -> Failure {
+        Failure::Refused(self.name(), refusal)
+    }
+}
+
+fn looks_like_text(bytes: &[u8], refusal: &Refusal) -> bool {
+    let at_the_start = matches!(refusal.question, Question::Length | Question::Start);
+    let written = |byte: &u8| byte.is_ascii_graphic() || byte.is_ascii_whitespace();
+    at_the_start && !bytes.is_empty() && bytes.iter().all(written)
+}
+
+pub(super) fn show(file: &Source) -> Result<Outcome, Failure> {
+    let (_, fabric) = file.fabric()?;
+    Ok(Outcome::text(text::show(&fabric), 0))
+}
+
+/// Nothing is written unless all of the text is right.
+pub(super) fn pack(text: &Source, file: &OsStr) -> Result<Outcome, Failure> {
+    let bytes = text.read()?;
+    let name = text.name();
+    let said = String::from_utf8(bytes)
+        .map_err(|_| Failure::Error(format!("{name}: it isn't text (UTF-8)")))?;
+    let packed = text::pack(&said).map_err(|wrong| Failure::Error(format!("{name}:{wrong}")))?;
+    if file == "-" {
+        return Ok(Outcome {
+            output: packed,
+            status: 0,
+        });
+    }
+    let failed = |error| Failure::Error(format!("{}: {error}", file.to_string_lossy()));
+    std::fs::write(file, packed).map_err(failed)?;
+    Ok(Outcome::text(String::new(), 0))
+}

@@ -1,0 +1,63 @@
+//! A fabric's records, in file order.
+
+use crate::calls::accept;
+use crate::record::{file_of, Edge, Entry, Link, Record};
+use crate::refusal::Refusal;
+use crate::words::Words;
+
+/// What a fabric file says. An entry's number is its index.
+///
+/// ```
+/// use mwishovala::Fabric;
+/// let file = mwishovala::text::pack("edge 1 group 7 admits any")?;
+/// let fabric = Fabric::read(&file)?;
+/// assert_eq!(fabric.edges[0].group, 7);
+/// assert_eq!(fabric.to_bytes(), file);
+/// # Ok::<(), Box<dyn std::error::Error>>(())
+/// ```
+#[derive(Clone, Debug, Default, PartialEq, Eq)]
+pub struct Fabric {
+    pub edges: Vec<Edge>,
+    pub links: Vec<Link>,
+    pub entries: Vec<Entry>,
+}
+
+impl Fabric {
+    /// The records of a file that the proved library accepts.
+    pub fn read(file: &[u8]) -> Result<Fabric, Refusal> {
+        accept(file)?;
+        Ok(Fabric::before(Words(file), usize::MAX))
+    }
+
+    /// The records before this place, as they stand.
+    pub(crate) fn before(words: Words, place: usize) -> Fabric {
+        let mut fabric = Fabric::default();
+        for (_, record) in words.records().take_while(|(here, _)| *here < place) {
+            match record {
+                Record::Edge(edge) => fabric.edges.push(edge),
+                Record::Link(link) => fabric.links.push(link),
+                Record::Entry(entry) => fabric.entries.push(entry),
+            }
+        }
+        fabric
+    }
+
+    /// The file that says this; of a fabric that was read, the bytes it was
+    /// read from. Whether it is accepted is for `accept` to say.
+    pub fn to_bytes(&self) -> Vec<u8> {
+        let edges = self.edges.iter().copied().map(Record::Edge);
+        let links = self.links.iter().copied().map(Record::Link);
+        let entries = self.entries.iter().copied().map(Record::Entry);
+        file_of(edges.chain(links).chain(entries))
+    }
+
+    /// The edge at this port, if it is an edge port.
+    pub fn edge(&self, port: u16) -> Option<&Edge> {
+        self.edges.iter().find(|edge| edge.port == port)
+    }
+
+    /// The link that leads on from this out-port.
+    pub fn link_from(&self, port: u16) -> Option<&Link> {
+        self.links.iter().find(|link| link.from == port)
+    }
+}

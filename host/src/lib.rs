@@ -1,0 +1,45 @@
+//! The host of the proved fabric library.
+//!
+//! A fabric of OpenFlow switches is a file of records: edge ports with their
+//! groups, links, flow entries. Three calls answer questions about it, for
+//! every header at once: [`verdict`] says whether a foreign packet can get out
+//! at a port, [`list`] gives every header that can, and [`run`] takes one
+//! packet through. The answers are computed by code that is proved; what
+//! stands here makes the calls and reads their words.
+//!
+//! No function here panics, whatever bytes it is given.
+
+#![deny(unsafe_code, missing_debug_implementations)]
+#![warn(unreachable_pub)]
+
+mod calls;
+#[doc(hidden)]
+pub mod command;
+mod explain;
+mod fabric;
+mod field;
+mod finds;
+mod header;
+mod path;
+mod query;
+#[allow(unsafe_code)]
+pub mod raw;
+mod record;
+mod refusal;
+mod run;
+pub mod text;
+mod verdict;
+mod words;
+
+pub use calls::{accept, run};
+pub use calls::{list, list_growing, verdict};
+pub use fabric::Fabric;
+pub use field::Field;
+pub use finds::{Find, Finds};
+pub use header::{Header, HeaderSet};
+pub use path::Path;
+pub use query::{Query, MOST_HOPS, USUAL_BUDGET};
+pub use record::{Edge, Entry, Link};
+pub use refusal::{Question, Refusal};
+pub use run::{Fate, Run};
+pub use verdict::Verdict;

@@ -1,0 +1,45 @@
+//! Fabrics and header sets as text that people read and write.
+//!
+//! A line for each edge, link and entry, and `#` before a remark:
+//!
+//! ```text
+//! edge 1 group 7 admits nw_src=10.0.0.0/24
+//! edge 2 group 9 admits any
+//! link 10 -> 11
+//! entry 1 -> 10 priority 20 match nw_dst=10.0.0.2,tp_dst=80 set dl_vlan=5
+//! entry 11 -> drop priority 1 match any
+//! ```
+//!
+//! Entries are numbered from 0 as they stand; edges and links, whose order in a
+//! file is fixed, may stand anywhere.
+
+mod line;
+mod pack;
+mod sets;
+mod show;
+mod token;
+
+pub use pack::pack;
+pub use show::show;
+
+pub(crate) use sets::parse_header;
+
+use std::error::Error;
+use std::fmt;
+
+/// What is wrong with a text, and where, counted from 1.
+#[derive(Clone, Debug, PartialEq, Eq)]
+pub struct Wrong {
+    pub line: usize,
+    /// In characters.
+    pub column: usize,
+    pub message: String,
+}
+
+impl fmt::Display for Wrong {
+    fn fmt(&self, f: &mut fmt::Formatter) -> fmt::Result {
+        write!(f, "{}:{}: {}", self.line, self.column, self.message)
+    }
+}
+
+impl Error for Wrong {}

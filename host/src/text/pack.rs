@@ -1,0 +1,80 @@
+//! Text to a fabric file.
+
+use super::line::Line;
+use super::token::Token;
+use super::Wrong;
+use crate::calls::accept;
+use crate::record::{file_of, Record, EDGE, ENTRY, LINK};
+use crate::refusal::{Question, Refusal};
+
+/// The fabric file that this text says; the proved library accepts it.
+///
+/// ```
+/// use mwishovala::text::pack;
+/// assert_eq!(pack("# nothing").unwrap(), [2, 0, 1, 0x10, 0, 0, 0, 0x50]);
+/// let wrong = pack("edge 1 group 7 admits any\nlink 1 -> 40").unwrap_err();
+/// assert_eq!(wrong.to_string(), "2:6: question 6 at word 10: link 1→40 starts at an edge port");
+/// ```
+pub fn pack(text: &str) -> Result<Vec<u8>, Wrong> {
+    let mut lines = Vec::new();
+    for (number, line) in text.lines().enumerate() {
+        let said = line.split('#').next().unwrap_or("");
+        lines.extend(Line::parse(Token {
+            line: number + 1,
+            column: 1,
+            text: said,
+        })?);
+    }
+    lines.sort_by_key(|line| in_file_order(&line.record));
+    let file = file_of(lines.iter().map(|line| line.record));
+    match accept(&file) {
+        Ok(()) => Ok(file),
+        Err(refusal) => Err(wrong(&lines, &refusal)),
+    }
+}
+
+/// Edges and links have one order that question 4 lets pass; entries stay in
+/// the text's.
+fn in_file_order(record: &Record) -> (u32, u16) {
+    let port = match record {
+        Record::Edge(edge) => edge.port,
+        Record::Link(link) => link.from,
+        Record::Entry(_) => 0,
+    };
+    (record.kind(), port)
+}
+
+/// A refusal of the packed file, at the line that it is about.
+fn wrong(lines: &[Line], refusal: &Refusal) -> Wrong {
+    let about = match refusal.question {
+        Question::Length => first_past_its_limit(lines),
+        _ => at_place(lines, refusal.place),
+    };
+    let message = refusal.to_string();
+    match (about, refusal.question) {
+        (Some(line), Question::Ports | Question::Links) => line.port.wrong(message),
+        (Some(line), _) => line.first.wrong(message),
+        (None, _) => Token::whole("").wrong(message),
+    }
+}
+
+fn at_place<'l, 't>(lines: &'l [Line<'t>], place: u64) -> Option<&'l Line<'t>> {
+    let mut here = 1;
+    lines.iter().find(|line| {
+        let found = here == place;
+        here += line.record.words() as u64;
+        found
+    })
+}
+
+/// A packed file is too long only if one kind has too many records.
+fn first_past_its_limit<'l, 't>(lines: &'l [Line<'t>]) -> Option<&'l Line<'t>> {
+    let nth_of_kind = |kind, limit| {
+        let mut of_kind = lines.iter().filter(move |line| line.record.kind() == kind);
+        of_kind.nth(limit)
+    };
+    let limits = [(EDGE, 64), (LINK, 256), (ENTRY, 512)];
+    limits
+        .into_iter()
+        .find_map(|(kind, limit)| nth_of_kind(kind, limit))
+}

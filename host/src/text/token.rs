@@ -1,0 +1,94 @@
+//! Pieces of a text that know where they stand.
+
+use super::Wrong;
+
+/// A piece of one line.
+#[derive(Clone, Copy, Debug)]
+pub(super) struct Token<'t> {
+    pub(super) line: usize,
+    pub(super) column: usize,
+    pub(super) text: &'t str,
+}
+
+impl<'t> Token<'t> {
+    /// A text that has one line.
+    pub(super) fn whole(text: &'t str) -> Token<'t> {
+        Token {
+            line: 1,
+            column: 1,
+            text,
+        }
+    }
+
+    pub(super) fn wrong(&self, message: impl Into<String>) -> Wrong {
+        Wrong {
+            line: self.line,
+            column: self.column,
+            message: message.into(),
+        }
+    }
+
+    /// The piece from this byte to that one.
+    fn piece(&self, from: usize, to: usize) -> Token<'t> {
+        Token {
+            column: self.column + self.text[..from].chars().count(),
+            text: &self.text[from..to],
+            ..*self
+        }
+    }
+
+    /// What stands behind it: nothing.
+    pub(super) fn end(&self) -> Token<'t> {
+        let trimmed = self.text.trim_end().len();
+        self.piece(trimmed, trimmed)
+    }
+
+    /// What stands before the first of these characters, and after it.
+    pub(super) fn split_once(&self, at: char) -> Option<(Token<'t>, Token<'t>)> {
+        let place = self.text.find(at)?;
+        let after = self.piece(place + at.len_utf8(), self.text.len());
+        Some((self.piece(0, place), after))
+    }
+
+    /// What stands between these characters.
+    pub(super) fn split(self, at: char) -> impl Iterator<Item = Token<'t>> {
+        let mut rest = Some(self);
+        std::iter::from_fn(move || {
+            let here = rest?;
+            let (first, others) = match here.split_once(at) {
+                Some((first, others)) => (first, Some(others)),
+                None => (here, None),
+            };
+            rest = others;
+            Some(first)
+        })
+    }
+
+    /// The words between white space.
+    pub(super) fn words(self) -> impl Iterator<Item = Token<'t>> {
+        self.text.split_whitespace().map(move |word| {
+            let from = word.as_ptr() as usize - self.text.as_ptr() as usize;
+            self.piece(from, from + word.len())
+        })
+    }
+
+    /// A decimal number, or a hexadecimal one after 0x, up to `most`.
+    pub(super) fn number(&self, what: &str, most: u32) -> Result<u32, Wrong> {
+        let (digits, radix) = match self.text.strip_prefix("0x") {
+            Some(digits) => (digits, 16),
+            None => (self.text, 10),
+        };
+        let all_digits = digits.chars().all(|digit| digit.is_digit(radix));
+        if digits.is_empty() || !all_digits {
+            return Err(self.wrong(format!("'{}' is no {what}", self.text)));
+        }
+        let number = u32::from_str_radix(digits, radix).ok();
+        let in_range = number.filter(|&number| number <= most);
+        in_range.ok_or_else(|| {
+            self.wrong(format!(
+                "'{}' is too large for {what}: at most {most}",
+                self.text
+            ))
+        })
+    }
+}

@@ -1,0 +1,217 @@
+//! The command, end to end: what it says, and its status.
+
+#[path = "common/command.rs"]
+mod command;
+
+use std::fs;
+
+use command::{folder, mwishovala, ran, with_f, F};
+use reference::file::write;
+use reference::random::deep_ring;
+
+#[test]
+fn the_status_says_it() {
+    let folder = with_f("status");
+    for (line, status) in [
+        ("verdict f.fabric 1", 0),
+        ("verdict f.fabric 2", 1),
+        ("verdict f.fabric 2 --asked nw_dst=10.0.0.3", 0),
+        ("verdict f.fabric 2 --asked nw_dst=10.0.0.0/24,tp_dst=80", 1),
+        ("verdict f.fabric 2 --asked=tp_dst=0x1/0x3", 0),
+        ("verdict f.fabric 3", 2),
+        ("verdict f.fabric 2 --hops 17", 2),
+        ("verdict f.fabric 2 --hops 1 --budget 1", 2),
+        ("verdict f.txt 2", 2),
+        ("verdict nowhere 2", 2),
+        ("list f.fabric 2", 0),
+        ("list f.fabric 1", 0),
+        ("list f.fabric 9", 2),
+        ("run f.fabric 1 any", 0),
+        ("run f.fabric 5 any", 2),
+        ("audit f.fabric", 1),
+        ("audit f.fabric --asked tp_dst=1 --jobs 1", 0),
+        ("audit f.fabric --budget 1", 2),
+        ("audit f.fabric --hops 0", 2),
+        ("show f.fabric", 0),
+        ("show f.txt", 2),
+        ("dot f.fabric", 0),
+        ("dot f.fabric 2", 0),
+        ("dot f.fabric 5", 2),
+        ("--help", 0),
+        ("verdict --help", 0),
+    ] {
+        let ran = ran(&folder, line);
+        assert_eq!(ran.status, status, "{line}");
+        assert!(!ran.out.is_empty() || !ran.err.is_empty(), "{line}");
+    }
+}
+
+#[test]
+fn bad_use_is_told() {
+    let folder = with_f("bad-use");
+    for (line, said) in [
+        ("", "there is no command ''"),
+        ("vrdict f.fabric 2", "there is no command 'vrdict'"),
+        ("verdict", "a fabric file is missing"),
+        ("verdict f.fabric", "a target port is missing"),
+        ("verdict f.fabric two", "a target port: 'two' is no number"),
+        ("verdict f.fabric +2", "a target port: '+2' is no number"),
+        ("verdict f.fabric 2 3", "'3' is one argument too many"),
+        ("verdict f.fabric 2 --fast", "there is no option '--fast'"),
+        ("verdict f.fabric 2 --hops", "--hops needs a value"),
+        (
+            "verdict f.fabric 2 --hops 1 --hops=2",
+            "--hops stands there twice",
+        ),
+        ("verdict f.fabric 2 --hops x", "--hops: 'x' is no number"),
+        (
+            "verdict f.fabric 2 --jobs 2",
+            "--jobs is no option of this command",
+        ),
+        (
+            "verdict f.fabric 2 --asked tp_dst=x",
+            "--asked, column 8: 'x' is no tp_dst",
+        ),
+        (
+            "run f.fabric 1 tp_dst=1/0x3",
+            "header, column 1: tp_dst has a mask: a packet has one value",
+        ),
+        (
+            "run f.fabric 1 any --budget 3",
+            "--budget is no option of this command",
+        ),
+        (
+            "show f.fabric --json",
+            "--json is no option of this command",
+        ),
+    ] {
+        let ran = ran(&folder, line);
+        let expected = format!("mwishovala: {said}; see mwishovala --help\n");
+        assert_eq!(
+            (ran.err, ran.out.len(), ran.status),
+            (expected, 0, 2),
+            "{line}"
+        );
+    }
+}
+
+#[test]
+fn refusals_are_told() {
+    let folder = with_f("refusals");
+    fs::write(folder.join("short"), [1, 2, 3]).unwrap();
+    for (line, said) in [
+        (
+            "verdict f.fabric 3",
+            "f.fabric: question 8: the target, port 3, is no edge port",
+        ),
+        (
+            "list f.fabric 2 --budget 1",
+            "f.fabric: question 13: a budget of 1 units isn't enough; --budget gives it more",
+        ),
+        (
+            "run f.fabric 1 any --hops 0",
+            "f.fabric: question 9: a hop limit of 0: it is 1 to 16",
+        ),
+        (
+            "show short",
+            "short: question 1: the file has 3 bytes, fewer than 8",
+        ),
+        (
+            "show f.txt",
+            "f.txt: question 2: word 0 is 0x65676465, which is no start; \
+             it looks like text: pack it first",
+        ),
+    ] {
+        let ran = ran(&folder, line);
+        let expected = format!("mwishovala: {said}\n");
+        assert_eq!(
+            (ran.err, ran.out.len(), ran.status),
+            (expected, 0, 2),
+            "{line}"
+        );
+    }
+    let json = ran(&folder, "verdict f.fabric 2 --hops 17 --json");
+    let expected = "{\"refused\":{\"question\":9,\"place\":0,\"reason\":\"a hop limit of 17: it is 1 to 16\"}}\n";
+    assert_eq!((json.text(), json.status), (expected, 2));
+}
+
+#[test]
+fn the_help_has_every_command_and_option() {
+    let help = ran(&folder("help"), "--help");
+    for word in [
+        "verdict",
+        "list",
+        "run",
+        "audit",
+        "show",
+        "pack",
+        "dot",
+        "--asked",
+        "--hops",
+        "--budget",
+        "--jobs",
+        "--json",
+        "--help",
+        "Exit status",
+    ] {
+        assert!(help.text().contains(word), "{word}");
+    }
+}
+
+/// A wrong text leaves the file as it was, or not there.
+#[test]
+fn nothing_is_written_on_bad_input() {
+    let folder = with_f("bad-text");
+    fs::write(folder.join("bad.txt"), format!("{F}link 1 -> 5\n")).unwrap();
+    let before = fs::read(folder.join("f.fabric")).unwrap();
+    for (text, file) in [
+        ("bad.txt", "f.fabric"),
+        ("bad.txt", "new"),
+        ("f.fabric", "new"),
+    ] {
+        assert_eq!(ran(&folder, &format!("pack {text} {file}")).status, 2);
+    }
+    assert_eq!(fs::read(folder.join("f.fabric")).unwrap(), before);
+    assert!(!folder.join("new").exists());
+    assert_eq!(
+        ran(&folder, "pack bad.txt new").err,
+        "mwishovala: bad.txt:5:6: question 6 at word 19: link 1→5 starts at an edge port\n"
+    );
+    assert_eq!(
+        ran(&folder, "pack f.fabric new").err,
+        "mwishovala: f.fabric: it isn't text (UTF-8)\n"
+    );
+}
+
+#[test]
+fn standard_input_and_output() {
+    let folder = with_f("standard");
+    let file = fs::read(folder.join("f.fabric")).unwrap();
+    let packed = mwishovala(&folder, &["pack", "-", "-"], F.as_bytes());
+    assert_eq!((&packed.out, packed.status), (&file, 0));
+    let shown = mwishovala(&folder, &["show", "-"], &file);
+    let again = mwishovala(&folder, &["pack", "-", "-"], &shown.out);
+    assert_eq!(again.out, file);
+    let wrong = mwishovala(&folder, &["verdict", "-", "2"], b"nonsense");
+    assert!(wrong
+        .err
+        .starts_with("mwishovala: standard input: question 2"));
+    let long = mwishovala(&folder, &["show", "-"], &vec![0; 17 << 20]);
+    assert_eq!(long.err, "mwishovala: standard input: it is far too long\n");
+}
+
+/// The longest way that a packet can take is described hop by hop.
+#[test]
+fn a_way_of_sixteen_hops() {
+    let folder = folder("deep-ring");
+    let mut ring = deep_ring().fabric;
+    ring.edges[0].group = 2;
+    fs::write(folder.join("fabric"), write(&ring)).unwrap();
+    let ran = ran(&folder, "verdict fabric 2");
+    assert_eq!(ran.status, 1);
+    assert!(ran
+        .text()
+        .contains("\n  hop 16: in at port 12, out at port 2, leaving the fabric\n"));
+    let picture = self::ran(&folder, "dot fabric 2");
+    assert!(picture.text().contains("label=\"hop 16: entry "));
+}

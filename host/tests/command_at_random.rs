@@ -1,0 +1,108 @@
+//! The command on random fabrics, damaged files and any arguments.
+
+#[path = "common/command.rs"]
+mod command;
+#[path = "common/json.rs"]
+mod json;
+
+use std::fs;
+
+use command::{folder, mwishovala, ran, with_f, F};
+use json::is_json;
+use reference::file::write;
+use reference::random::{any, cases, damage, Rng};
+
+/// `show` and `pack` of random fabrics; `dot` and `--json` of them are whole.
+#[test]
+fn random_fabrics() {
+    let folder = folder("random");
+    cases(9_000_000, 60, |rng| {
+        let fabric = any(rng);
+        let file = write(&fabric);
+        fs::write(folder.join("fabric"), &file).unwrap();
+        let shown = ran(&folder, "show fabric");
+        fs::write(folder.join("text"), &shown.out).unwrap();
+        assert_eq!(ran(&folder, "pack text again").status, 0);
+        assert_eq!(fs::read(folder.join("again")).unwrap(), file);
+        let port = rng.pick(&fabric.edges).map_or(1, |edge| edge.port);
+        for line in ["verdict fabric", "list fabric", "dot fabric"] {
+            let json = if line.starts_with("dot") {
+                ""
+            } else {
+                " --json"
+            };
+            let ran = ran(&folder, &format!("{line} {port} --budget 5000{json}"));
+            assert!(json.is_empty() || is_json(ran.text()), "{line}");
+            let text = ran.text();
+            let is_picture = text.starts_with("digraph fabric {\n") && text.ends_with("}\n");
+            assert!(!json.is_empty() || ran.status == 2 || is_picture);
+        }
+        assert!(is_json(
+            ran(&folder, "audit fabric --budget 5000 --json").text()
+        ));
+    });
+}
+
+/// Damaged files and texts get a status of 2 or an answer, and never a panic.
+#[test]
+fn damaged_files() {
+    let folder = folder("damaged");
+    cases(9_100_000, 150, |rng| {
+        let fabric = any(rng);
+        let file = damage(&write(&fabric), rng);
+        fs::write(folder.join("fabric"), &file).unwrap();
+        let port = rng.pick(&fabric.edges).map_or(1, |edge| edge.port);
+        let line = match rng.below(7) {
+            0 => format!("verdict fabric {port} --budget 1000"),
+            1 => format!("list fabric {port} --budget 1000 --json"),
+            2 => format!("run fabric {port} nw_dst=10.0.0.1"),
+            3 => "audit fabric --budget 100".into(),
+            4 => "show fabric".into(),
+            5 => "pack fabric packed".into(),
+            _ => format!("dot fabric {port} --budget 1000"),
+        };
+        let ran = ran(&folder, &line);
+        assert!(ran.status != 2 || !ran.err.is_empty() || !ran.out.is_empty());
+    });
+}
+
+/// Whatever the arguments, there is an end and a status.
+#[test]
+fn arguments_at_random() {
+    let folder = with_f("arguments");
+    const WORDS: [&str; 22] = [
+        "verdict",
+        "list",
+        "run",
+        "audit",
+        "show",
+        "pack",
+        "dot",
+        "f.fabric",
+        "f.txt",
+        "2",
+        "1",
+        "any",
+        "tp_dst=80",
+        "--json",
+        "--hops",
+        "--asked",
+        "--budget",
+        "--jobs",
+        "-",
+        "--",
+        "é",
+        "",
+    ];
+    cases(9_300_000, 300, |rng: &mut Rng| {
+        let number = rng.between(0, 6);
+        let mut arguments: Vec<&str> = (0..number).map(|_| rng.one_of(WORDS)).collect();
+        if rng.once_in(2) {
+            arguments.insert(0, rng.one_of(["verdict", "list", "run", "audit", "dot"]));
+        }
+        // Only the files of this test are written to.
+        if !arguments.contains(&"pack") {
+            let _ = mwishovala(&folder, &arguments, F.as_bytes());
+        }
+    });
+}

@@ -1,0 +1,126 @@
+//! Fabrics and queries made by hand.
+
+use reference::file::to_le_bytes;
+use reference::{Edge, Entry, Fabric, Link, Query, Rewrite, Set};
+
+/// All wild.
+pub fn wild_query(port: u32, limit: u32, budget: u32) -> Query {
+    Query {
+        port,
+        limit,
+        budget,
+        care: [0; 4],
+        value: [0; 4],
+    }
+}
+
+pub fn run_query(port: u32, limit: u32, header: [u32; 4]) -> Query {
+    Query {
+        port,
+        limit,
+        budget: 0,
+        care: [u32::MAX; 4],
+        value: header,
+    }
+}
+
+/// Document 01's fabric F, as its 56 words are printed.
+pub fn fabric_f() -> Vec<u8> {
+    let mut words = vec![0x10010038];
+    words.push(0x20007001);
+    words.extend([0; 8]);
+    words.push(0x20009002);
+    words.extend([0; 8]);
+    words.extend([0x40014001, 0]);
+    words.extend([0, 0, 3, 0]);
+    words.extend([0, 0, 1, 0]);
+    words.extend([0; 8]);
+    words.extend([0x4000a001, 2]);
+    words.extend([0, 0xffffffff, 0, 0]);
+    words.extend([0, 0x0a000002, 0, 0]);
+    words.extend([0; 8]);
+    words.push(0x50000000);
+    to_le_bytes(&words)
+}
+
+pub fn edge(group: u16, port: u16) -> Edge {
+    Edge {
+        group,
+        port,
+        admitted: Set::ALL_WILD,
+    }
+}
+
+pub fn link(from: u16, to: u16) -> Link {
+    Link { from, to }
+}
+
+/// An entry with an all-wild match and no rewrite.
+pub fn entry(priority: u16, in_port: u16, out_port: u16) -> Entry {
+    Entry {
+        priority,
+        in_port,
+        out_port,
+        matching: Set::ALL_WILD,
+        rewrite: Rewrite::NONE,
+    }
+}
+
+pub fn fabric(edges: &[Edge], links: &[Link], entries: &[Entry]) -> Fabric {
+    Fabric {
+        edges: edges.to_vec(),
+        links: links.to_vec(),
+        entries: entries.to_vec(),
+    }
+}
+
+/// Two edges, links and rewrites: every kind of record, and a way of three hops
+/// from 1 to 2.
+pub fn linked() -> Fabric {
+    let tp_dst = |port: u128| Set {
+        care: 0xffff << 32,
+        value: port << 32,
+    };
+    let mut entries = [
+        entry(7, 1, 10),
+        entry(9, 11, 0),
+        entry(5, 11, 12),
+        entry(5, 13, 2),
+        entry(5, 2, 10),
+    ];
+    entries[0].rewrite = Rewrite {
+        mask: tp_dst(5).care,
+        value: tp_dst(5).value,
+    };
+    entries[1].matching = tp_dst(22);
+    entries[3].matching = tp_dst(5);
+    let mut edges = [edge(1, 1), edge(1, 2)];
+    edges[0].admitted = tp_dst(80);
+    fabric(&edges, &[link(10, 11), link(12, 13)], &entries)
+}
+
+/// As many finds at port 1 of one hop, ten words each, and of two hops, eleven
+/// words each; up to 1,638 and 117 of them.
+pub fn many_finds(near: u32, far: u32) -> Fabric {
+    let mut edges = vec![edge(1, 1)];
+    let mut entries = vec![entry(1, 51, 1)];
+    for number in 0..14 {
+        let here = near.saturating_sub(number * 117).min(117);
+        let in_port = 100 + number as u16;
+        edges.push(edge(2, in_port));
+        entries.extend(finds(here, in_port, 1));
+    }
+    edges.push(edge(2, 200));
+    entries.extend(finds(far, 200, 50));
+    fabric(&edges, &[link(50, 51)], &entries)
+}
+
+/// An allow under a deny of as many bits: a find for each of them.
+fn finds(number: u32, in_port: u16, out_port: u16) -> [Entry; 2] {
+    let mut deny = entry(2, in_port, 0);
+    deny.matching = Set {
+        care: (1 << number) - 1,
+        value: 0,
+    };
+    [deny, entry(1, in_port, out_port)]
+}

@@ -1,0 +1,219 @@
+//! The packet run of the static library against the reference.
+
+mod common;
+
+use std::cell::Cell;
+
+use common::fabrics::{fabric_f, linked, run_query};
+use common::{agreed, RUN};
+use reference::brute;
+use reference::file::{read, to_le_bytes, write};
+use reference::random::{any, cases, damage, inflict, largest, packet, Damage, Rng};
+
+/// Mostly room for the answer, also none.
+fn some_length(rng: &mut Rng) -> usize {
+    match rng.below(4) {
+        0 => rng.below(96),
+        1 => 96,
+        _ => rng.between(96, 200),
+    }
+}
+
+/// All four fates come up, and are also what naive forwarding gives.
+#[test]
+fn random_fabrics() {
+    let fates: [Cell<u32>; 4] = Default::default();
+    cases(1_000_000, 15_000, |rng| {
+        let fabric = any(rng);
+        let file = write(&fabric);
+        for _ in 0..10 {
+            let query = packet(rng, &fabric);
+            if let Ok(words) = agreed(RUN, &file, some_length(rng), &query) {
+                let header = query.asked().value;
+                let naive = brute::forward(&fabric, query.port as u16, header, query.limit);
+                assert_eq!(words, naive);
+                let fate = &fates[words[0] as usize];
+                fate.set(fate.get() + 1);
+            }
+        }
+    });
+    let replayed = fates.iter().map(Cell::get).sum::<u32>() <= 10;
+    assert!(replayed || fates.iter().all(|fate| fate.get() > 500));
+}
+
+/// Every header over a few bits, from every edge port.
+#[test]
+fn every_header_of_small_fabrics() {
+    cases(1_100_000, 300, |rng| {
+        let made = reference::random::small_ring(rng);
+        let file = write(&made.fabric);
+        let limit = rng.between(1, 16) as u32;
+        for header in brute::headers(&made.bits) {
+            for edge in &made.fabric.edges {
+                let port = u32::from(edge.port);
+                let query = run_query(port, limit, reference::set::to_words(header));
+                let words = agreed(RUN, &file, 96, &query).unwrap();
+                let naive = brute::forward(&made.fabric, edge.port, header, limit);
+                assert_eq!(words, naive);
+            }
+        }
+    });
+}
+
+#[test]
+fn files_damaged_in_each_way() {
+    for (number, how) in (0..).zip(Damage::ALL) {
+        cases(1_200_000 + 1000 * number, 100, |rng| {
+            let fabric = any(rng);
+            let damaged = inflict(how, &write(&fabric), rng);
+            let query = packet(rng, &fabric);
+            let answer = agreed(RUN, &damaged.bytes, some_length(rng), &query);
+            if let Some(refusal) = damaged.refusal {
+                assert_eq!(
+                    answer,
+                    Err((refusal.number, refusal.place as u64)),
+                    "{how:?}"
+                );
+            }
+        });
+    }
+}
+
+#[test]
+fn files_damaged_more_than_once() {
+    cases(1_300_000, 8000, |rng| {
+        let fabric = any(rng);
+        let mut file = write(&fabric);
+        for _ in 0..rng.between(2, 4) {
+            file = damage(&file, rng);
+        }
+        let _ = agreed(RUN, &file, some_length(rng), &packet(rng, &fabric));
+    });
+}
+
+/// Words of random kinds in a file whose start is right.
+#[test]
+fn files_of_random_words() {
+    cases(1_400_000, 10_000, |rng| {
+        let mut words = vec![0];
+        for _ in 0..rng.between(0, 60) {
+            let kind = rng.one_of([2, 3, 3, 4, 5, 9]) << 28;
+            let low = rng.draw() as u32 & rng.one_of([0, 0xfff, 0x00ff_ffff, u32::MAX]);
+            words.push(if rng.once_in(3) { 0 } else { kind | low });
+        }
+        words.push(0x5000_0000);
+        words[0] = reference::file::start_word(words.len());
+        let query = run_query(rng.below(8) as u32, 16, [0; 4]);
+        let _ = agreed(RUN, &to_le_bytes(&words), 96, &query);
+    });
+}
+
+#[test]
+fn every_length_of_file_and_area() {
+    let query = run_query(1, 16, [0, 0x0a00_0002, 2, 0]);
+    for length in 0..=fabric_f().len() {
+        let _ = agreed(RUN, &fabric_f()[..length], 96, &query);
+    }
+    for lent in 0..200 {
+        let answer = agreed(RUN, &fabric_f(), lent, &query);
+        assert_eq!(answer.is_ok(), lent >= 96);
+    }
+    let most = write(&largest(&mut Rng::new(7)));
+    for length in 40_100..40_300 {
+        let mut file = most.clone();
+        file.resize(length, 0);
+        let answer = agreed(RUN, &file, 96, &query);
+        let read_on = matches!(answer, Ok(_) | Err((11, 0)));
+        assert_eq!(read_on, length == 40_200);
+    }
+}
+
+/// Every bit flipped, of F and of a fabric with links.
+#[test]
+fn every_bit_matters_alike() {
+    for whole in [fabric_f(), write(&linked())] {
+        for bit in 0..8 * whole.len() {
+            let mut file = whole.clone();
+            file[bit / 8] ^= 1 << (bit % 8);
+            let _ = agreed(RUN, &file, 96, &run_query(1, 16, [0, 0x0a00_0002, 2, 0]));
+        }
+    }
+}
+
+/// Of the questions that get a no, the one asked first answers.
+#[test]
+fn questions_9_to_12_in_turn() {
+    for noes in 0..16 {
+        let no = |place: u32| noes >> place & 1 == 1;
+        let mut query = run_query(1, 16, [0; 4]);
+        if no(0) {
+            query.limit = 0;
+        }
+        if no(1) {
+            query.care[2] = 0x7fff_ffff;
+        }
+        if no(2) {
+            query.port = 3;
+        }
+        let lent = if no(3) { 95 } else { 96 };
+        let answer = agreed(RUN, &fabric_f(), lent, &query);
+        let first = (0..4).find(|&place| no(place));
+        assert_eq!(answer.err(), first.map(|place| (9 + place as u8, 0)));
+    }
+}
+
+/// Numbers whose low bits would do.
+#[test]
+fn numbers_out_of_range() {
+    let header = [0, 0x0a00_0002, 2, 0];
+    for port in [0, 3, 1 + 4096, 1 + 65_536, 1 << 31, u32::MAX] {
+        let answer = agreed(RUN, &fabric_f(), 96, &run_query(port, 16, header));
+        assert_eq!(answer, Err((11, 0)));
+    }
+    for limit in [0, 17, 256 + 1, 65_536 + 1, 1 << 31, u32::MAX] {
+        let answer = agreed(RUN, &fabric_f(), 96, &run_query(1, limit, header));
+        assert_eq!(answer, Err((9, 0)));
+    }
+}
+
+#[test]
+fn every_bit_of_the_header_is_cared_for() {
+    for bit in 0..128 {
+        let mut query = run_query(1, 1, [0; 4]);
+        query.care[bit / 32] ^= 1 << (bit % 32);
+        assert_eq!(agreed(RUN, &fabric_f(), 96, &query), Err((10, 0)));
+        query.value[bit / 32] = 1 << (bit % 32);
+        assert_eq!(agreed(RUN, &fabric_f(), 96, &query), Err((10, 0)));
+    }
+}
+
+/// E1, E6 and E7 of document 01, as far as they are about a run.
+#[test]
+fn checked_examples() {
+    let of = |limit| agreed(RUN, &fabric_f(), 96, &run_query(1, limit, [0; 4]));
+    assert!(of(1).is_ok());
+    assert!(of(16).is_ok());
+    assert_eq!(of(17), Err((9, 0)));
+    let start_and_end = to_le_bytes(&[0x10010002, 0x50000000]);
+    assert!(read(&start_and_end).is_ok());
+    assert_eq!(
+        agreed(RUN, &start_and_end, 96, &run_query(1, 16, [0; 4])),
+        Err((11, 0))
+    );
+}
+
+/// The library keeps nothing between calls: threads don't disturb each other.
+#[test]
+fn calls_at_the_same_time() {
+    std::thread::scope(|scope| {
+        for thread in 0..4 {
+            scope.spawn(move || {
+                cases(1_500_000 + 1000 * thread, 500, |rng| {
+                    let fabric = any(rng);
+                    let file = write(&fabric);
+                    let _ = agreed(RUN, &file, 96, &packet(rng, &fabric));
+                });
+            });
+        }
+    });
+}

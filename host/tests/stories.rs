@@ -1,0 +1,77 @@
+//! The stories, typed again: `stories/*.session`.
+
+#[path = "common/command.rs"]
+mod command;
+
+use std::fs;
+use std::path::Path;
+
+use command::{folder, mwishovala};
+
+fn tell(story: &str) {
+    let stories = Path::new(env!("CARGO_MANIFEST_DIR")).join("stories");
+    let folder = folder(story);
+    for text in fs::read_dir(&stories).unwrap() {
+        let text = text.unwrap();
+        fs::copy(text.path(), folder.join(text.file_name())).unwrap();
+    }
+    let session = fs::read_to_string(stories.join(story).with_extension("session")).unwrap();
+    let mut typed = String::new();
+    for line in session.lines().filter(|line| line.starts_with("$ ")) {
+        let arguments: Vec<&str> = line.split(' ').skip(2).collect();
+        let ran = mwishovala(&folder, &arguments, &[]);
+        typed += &format!("{line}\n{}{}", ran.text(), ran.err);
+        if ran.status != 0 {
+            typed += &format!("[{}]\n", ran.status);
+        }
+    }
+    assert_eq!(typed, session);
+}
+
+#[test]
+fn an_older_allow_has_a_higher_priority() {
+    tell("older-allow");
+}
+
+#[test]
+fn a_rewrite_on_the_second_switch() {
+    tell("second-switch");
+}
+
+#[test]
+fn a_volume_is_passed_on() {
+    tell("passed-on");
+}
+
+#[test]
+fn beaters_attribute_by_attribute() {
+    tell("trap-attributes");
+}
+
+#[test]
+fn undoing_a_rewrite() {
+    tell("trap-rewrite");
+}
+
+#[test]
+fn a_beater_at_the_exit() {
+    tell("trap-exit");
+}
+
+#[test]
+fn forward_again() {
+    tell("trap-equality");
+}
+
+/// No story is left out above.
+#[test]
+fn all_are_told() {
+    let stories = Path::new(env!("CARGO_MANIFEST_DIR")).join("stories");
+    let files = fs::read_dir(stories).unwrap();
+    let sessions = files.filter(|file| {
+        let path = file.as_ref().unwrap().path();
+        path.extension()
+            .is_some_and(|extension| extension == "session")
+    });
+    assert_eq!(sessions.count(), 7);
+}

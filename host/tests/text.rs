@@ -1,0 +1,223 @@
+//! Fabrics as text: packing what is shown gives the same bytes, and what is
+//! wrong is said with its line and column.
+
+use mwishovala::text::{pack, show};
+use mwishovala::{accept, Fabric, HeaderSet};
+use reference::file::write;
+use reference::random::{any, cases, Rng};
+
+#[test]
+fn packing_what_is_shown_gives_the_same_bytes() {
+    cases(8_000_000, 4000, |rng| {
+        let file = write(&any(rng));
+        let shown = show(&Fabric::read(&file).unwrap());
+        assert!(pack(&shown).as_deref() == Ok(&file[..]), "{shown}");
+    });
+}
+
+#[test]
+fn sets_are_read_as_they_are_written() {
+    cases(8_100_000, 20_000, |rng| {
+        let set = random_set(rng);
+        let text = set.to_string();
+        assert_eq!(text.parse(), Ok(set), "{text}");
+    });
+}
+
+/// Masks whole, of prefixes, and of any bits.
+fn random_set(rng: &mut Rng) -> HeaderSet {
+    let word = |rng: &mut Rng| match rng.below(4) {
+        0 => 0,
+        1 => u32::MAX,
+        2 => u32::MAX << rng.below(32),
+        _ => rng.draw() as u32 & rng.draw() as u32,
+    };
+    let care = [0; 4].map(|_| word(rng));
+    let value = care.map(|care| rng.draw() as u32 & care);
+    HeaderSet { care, value }
+}
+
+/// Edges and links may stand anywhere; entries are numbered as they stand.
+#[test]
+fn order_of_lines() {
+    let sorted = "edge 1 group 1 admits any\nedge 2 group 1 admits any\nlink 5 -> 6\nlink 7 -> 8\n\
+                  entry 2 -> 5 priority 1 match any\nentry 1 -> 5 priority 9 match any\n";
+    let mixed =
+        "entry 2 -> 5 priority 1 match any # first\nlink 7 -> 8\nedge 2 group 1 admits any\n\n\
+                 \tentry 1 -> 5   priority 9 match any\nedge 1 group 1 admits any\nlink 5 -> 6";
+    assert_eq!(pack(mixed), pack(sorted));
+}
+
+#[test]
+fn ways_to_write_a_set() {
+    let same = [
+        ("nw_src=10.0.0.0/8", "nw_src=0x0a000000/0xff000000"),
+        ("nw_src=10.0.0.0/8", "nw_src=10.0.0.0/255.0.0.0"),
+        ("nw_dst=10.0.0.2", "nw_dst=0x0a000002/32"),
+        ("nw_proto=6,tp_dst=80", "tp_dst=0x50,nw_proto=tcp"),
+        ("nw_proto=17", "nw_proto=udp"),
+        ("nw_proto=1", "nw_proto=icmp"),
+        ("any", "nw_src=0.0.0.0/0"),
+        (
+            "dl_vlan=0x0001/0x00ff,nw_tos=4",
+            "nw_tos=4/0xff,dl_vlan=1/0xff",
+        ),
+    ];
+    for (one, other) in same {
+        let (one, other): (HeaderSet, HeaderSet) = (one.parse().unwrap(), other.parse().unwrap());
+        assert_eq!(one, other);
+    }
+    let words = "nw_src=1.2.3.4,nw_dst=5.6.7.8,tp_src=1,tp_dst=2,dl_vlan=3,nw_tos=4,nw_proto=5";
+    let set: HeaderSet = words.parse().unwrap();
+    assert_eq!(set.care, [u32::MAX; 4]);
+    assert_eq!(set.value, [0x01020304, 0x05060708, 0x00010002, 0x00030405]);
+    assert_eq!(set.to_string(), words);
+}
+
+#[test]
+fn wrong_sets() {
+    let wrong = [
+        ("", "1:1: '' isn't FIELD=VALUE"),
+        ("tp_dst", "1:1: 'tp_dst' isn't FIELD=VALUE"),
+        ("tp_dst=80,", "1:11: '' isn't FIELD=VALUE"),
+        ("tp_dst=80,tp_dst=81", "1:11: tp_dst stands here twice"),
+        (
+            "tp_dst=65536",
+            "1:8: '65536' is too large for tp_dst: at most 65535",
+        ),
+        (
+            "tp_dst=99999999999",
+            "1:8: '99999999999' is too large for tp_dst: at most 65535",
+        ),
+        ("tp_dst=+80", "1:8: '+80' is no tp_dst"),
+        ("tp_dst=0x", "1:8: '0x' is no tp_dst"),
+        ("nw_tos=1,nw_src=10.0.0", "1:17: '10.0.0' is no address"),
+        (
+            "nw_src=10.0.0.0/33",
+            "1:17: '33' is too large for prefix length: at most 32",
+        ),
+        (
+            "nw_src=10.0.0.1/24",
+            "1:8: 10.0.0.1/24 has bits outside its mask: 10.0.0.0/24?",
+        ),
+        ("tp_dst=80/16", "1:11: a mask is hexadecimal, as 0xff00"),
+        (
+            "tp_dst=0x51/0xf0",
+            "1:8: 0x51/0xf0 has bits outside its mask: 0x0050/0x00f0?",
+        ),
+        ("any,tp_dst=80", "1:1: 'any' isn't FIELD=VALUE"),
+    ];
+    for (text, message) in wrong {
+        let error = text.parse::<HeaderSet>().unwrap_err();
+        assert_eq!(error.to_string(), message, "{text}");
+    }
+}
+
+#[test]
+fn wrong_lines() {
+    let wrong = [
+        (
+            "port 1",
+            "1:1: 'port': a line is an edge, a link or an entry",
+        ),
+        ("\n  edge", "2:7: a port is missing"),
+        ("edge 1 grup 2 admits any", "1:8: 'grup' instead of 'group'"),
+        (
+            "edge 1 group 70000 admits any",
+            "1:14: '70000' is too large for group: at most 65535",
+        ),
+        (
+            "edge 4096 group 1 admits any",
+            "1:6: '4096' is too large for port: at most 4095",
+        ),
+        ("edge 1 group 1", "1:15: 'admits' is missing"),
+        (
+            "edge 1 group 1 admits  # any",
+            "1:22: a header set, or 'any', is missing",
+        ),
+        ("edge 1 group 1 admits any 7", "1:27: '7' is too much"),
+        ("link 1 2", "1:8: '2' instead of '->'"),
+        ("link 1 -> drop", "1:11: 'drop' is no port"),
+        (
+            "entry 1 -> 2 priority 1 match tp_dst=x",
+            "1:38: 'x' is no tp_dst",
+        ),
+        (
+            "entry 1 -> 2 priority 1 match any get any",
+            "1:35: 'get' instead of 'set'",
+        ),
+        (
+            "entry 1 -> 2 priority 1 match any set",
+            "1:38: a header set, or 'any', is missing",
+        ),
+        ("# é\nedge é group", "2:6: 'é' is no port"),
+    ];
+    for (text, message) in wrong {
+        assert_eq!(pack(text).unwrap_err().to_string(), message, "{text}");
+    }
+}
+
+/// What the proved library refuses is said at its line.
+#[test]
+fn refused_lines() {
+    let edges = "edge 1 group 1 admits any\nedge 2 group 1 admits any\n";
+    let of = |lines: &str| pack(&format!("{edges}{lines}")).unwrap_err().to_string();
+    assert_eq!(
+        of("edge 1 group 2 admits any"),
+        "3:6: question 4 at word 10: edge 1 follows edge 1: edge ports have to rise"
+    );
+    assert_eq!(
+        of("link 12 -> 40\n\n link 5 -> 40\n"),
+        "3:6: question 6 at word 20: link 12→40 ends where an earlier link ends"
+    );
+    assert_eq!(
+        of("entry 1 -> drop priority 1 match any\nentry 3 -> 3 priority 1 match any"),
+        "4:7: question 4 at word 37: entry 1 sends out at port 3, where it takes in"
+    );
+    assert_eq!(
+        of("link 0 -> 4"),
+        "3:6: question 4 at word 19: link 0→4: ports are 1 to 4095"
+    );
+    let entries = "entry 9 -> drop priority 1 match any\n".repeat(65);
+    assert_eq!(
+        of(&entries),
+        "67:1: question 7 at word 1171: entry 64 is one more than 64 entries at in-port 9"
+    );
+    let many: String = (0..600)
+        .map(|number| format!("entry {} -> drop priority 1 match any\n", 10 + number / 64))
+        .collect();
+    assert_eq!(
+        of(&many),
+        "515:1: question 1: the file has 43280 bytes, more than 40200"
+    );
+}
+
+/// Texts that were shown, with a few characters changed.
+#[test]
+fn damaged_texts() {
+    const CHARACTERS: [char; 16] = [
+        ' ', '\n', '#', '-', '>', '=', ',', '/', '.', 'x', 'é', '\u{0}', '0', '9', '1', 'e',
+    ];
+    cases(8_200_000, 3000, |rng| {
+        let fabric = reference::random::small(rng).fabric;
+        let mut text: Vec<char> = show(&Fabric::read(&write(&fabric)).unwrap())
+            .chars()
+            .collect();
+        for _ in 0..rng.between(1, 4) {
+            let place = rng.below(text.len());
+            match rng.below(3) {
+                0 => drop(text.remove(place)),
+                1 => text[place] = rng.one_of(CHARACTERS),
+                _ => text.insert(place, rng.one_of(CHARACTERS)),
+            }
+        }
+        let text: String = text.into_iter().collect();
+        match pack(&text) {
+            Ok(file) => assert!(accept(&file).is_ok()),
+            Err(wrong) => {
+                let line = text.lines().nth(wrong.line - 1).expect("the line is there");
+                assert!((1..=line.chars().count() + 1).contains(&wrong.column));
+            }
+        }
+    });
+}
