@@ -1,6 +1,6 @@
 // Header sets of four words: membership, intersection, rewrites and their undoing, and carving.
 // Document 01, "Header sets". What each call means is in specs/Sets.antt and specs/Carving.antt, for any number of words;
-// what follows from it is in proofs/: Members, Intersection, Undoing, Carved, Lowest.
+// what follows from it is in proofs/: Members, Intersection, Undoing, Carved, Parts.
 ghost use mathlib.Core.Path.{_≡_};
 ghost use mathlib.Core.Bool.{_&&_};
 ghost use Prim.Native.Nat.{_<_};

@@ -88,7 +88,7 @@ fn put_no(number: u64, place: u64) {
     io::write_all(STDOUT_FILENO, b"\n");
 }
 
-// One byte more than the query and the longest fabric, so that a longer input fails question 1 as it should.
+// A word more than the query and the longest fabric, so that a longer input fails question 1 as it should.
 fn main() {
     let mut input = [0u8; 40252];
     let n = io::read_full(STDIN_FILENO, &mut input);
