@@ -1,12 +1,11 @@
--- The list's two passes: the first counts the words of all finds, the second writes them in order. Assumes nothing.
+-- The list's two passes: the first writes nothing, the second writes the words of all finds in order. Assumes nothing.
 use mathlib.Core.Bool.{Bool, true, false, _&&_, true≢false, false≢true}
 use mathlib.Core.List.{List, [], _∷_, _++_}
-use mathlib.Core.Logic.{_⊎_, inl, inr}
 use mathlib.Core.Path.{_≡_, refl, sym, ap, _∙_, subst}
-use Prim.Native.Nat.{ℕ, zero, suc, _+_, _*_, _/_, _^_, _≤_, _<_}
+use Prim.Native.Nat.{ℕ, suc, _+_, _*_, _/_, _≤_}
 use native.Mathlib.Numerals.{add-one}
 use native.Mathlib.Omega.{arith}
-use borrow.Author.Tests.{ltb-true, ltb-false, le-leb, lt-leb}
+use borrow.Author.Tests.{le-leb}
 use lib.Dec.{ltb, leb}
 use lib.ListN.{length, length-append}
 use Rattle.headers.proofs.Booleans.{and-fst, and-snd}
@@ -31,26 +30,6 @@ module _ (budget : ℕ) (found : Find → World → Played) (es : List Event) (w
       go true d = then (subst (λ (k : ℕ). endsWithin budget k es ≡ true) (sym (add-one (w .made))) (and-snd (ltb (w .made) budget) _ e))
       go false d = absurd (false≢true d)
 
--- a count that stays at the limit once it is past it
-pub Counts : ℕ → ℕ → Type 0
-Counts n m = (n ≡ m) ⊎ ((tooMany ≤ n) × (tooMany ≤ m))
-
-counts-more : (n m k : ℕ) → Counts n m → Counts (countedOn (ltb n tooMany) n k) (m + k)
-unfolding Counts
-counts-more n m k c = go (ltb n tooMany) refl c
-  where
-    go : (b : Bool) → ltb n tooMany ≡ b → (n ≡ m) ⊎ ((tooMany ≤ n) × (tooMany ≤ m)) → (countedOn b n k ≡ m + k) ⊎ ((tooMany ≤ countedOn b n k) × (tooMany ≤ m + k))
-    go true e (inl d) = inl (ap (λ (x : ℕ). x + k) d)
-    go true e (inr d) = absurd (let l = ltb-true n tooMany e in omega (arith, d .0))
-    go false e (inl d) = let l = ltb-false n tooMany e in inr (l, omega arith)
-    go false e (inr d) = inr (d .0, omega (arith, d .1))
-
--- an area of fewer bytes has room for a count of words exactly if it has room for the words
-pub counts-room : (n m bytes : ℕ) → Counts n m → bytes < 4 * tooMany → leb (4 * n) bytes ≡ leb (4 * m) bytes
-unfolding Counts
-counts-room n m bytes (inl d) l = ap (λ (x : ℕ). leb (4 * x) bytes) d
-counts-room n m bytes (inr d) l = lt-leb (4 * n) bytes (omega (arith, d .0)) ∙ sym (lt-leb (4 * m) bytes (omega (arith, d .1)))
-
 -- all events are gone through: their units are made
 pub record Through (w : World) (es : List Event) (p : Played) : Type 0 where
   pub through : p .status ≡ 0
@@ -61,28 +40,22 @@ module _ (budget : ℕ) where
 
   pub record CountedAll (w : World) (es : List Event) (p : Played) : Type 0 where
     pub passed : Through w es p
-    pub words : (m : ℕ) → Counts (w .words) m → Counts (p .world .words) (m + length (listWords (finds es)))
     pub area-kept : p .world .area ≡ w .area
 
   pub counted-all : (es : List Event) (w : World) → endsWithin budget (w .made) es ≡ true → CountedAll w es (play budget counted es w)
   unfolding endsWithin play step counted units finds listWords
   counted-all [] w e = record {
     passed = record { through = refl; made = omega arith };
-    words = λ m c. subst (Counts (w .words)) (let z : m ≡ m + 0 = omega arith in z) c;
     area-kept = refl;
   }
   counted-all (unit ∷ es) w e = after-unit budget counted es w (CountedAll w (unit ∷ es)) e λ d.
       let r = counted-all es (oneMore w) d in
-      record { passed = record { through = r .passed .through; made = omega (arith, r .passed .made) }; words = r .words; area-kept = r .area-kept }
+      record { passed = record { through = r .passed .through; made = omega (arith, r .passed .made) }; area-kept = r .area-kept }
   counted-all (find d ∷ es) w e =
       let next : World = record { made = w .made; words = countedOn (ltb (w .words) tooMany) (w .words) (length (findWords d)); area = w .area } in
       let r = counted-all es next e in
       record {
         passed = record { through = r .passed .through; made = r .passed .made };
-        words = λ m c.
-            subst (Counts (play budget counted es next .world .words))
-            (let z : m + length (findWords d) + length (listWords (finds es)) ≡ m + length (findWords d ++ listWords (finds es)) = omega (arith, length-append (findWords d) (listWords (finds es))) in z)
-            (r .words (m + length (findWords d)) (counts-more (w .words) m (length (findWords d)) c));
         area-kept = r .area-kept;
       }
 

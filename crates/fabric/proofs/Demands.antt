@@ -1,18 +1,18 @@
 -- The three demands hold: the first of each call by its definition, the others by forwarding's theorems, as an accepted file's fabric is
 -- sound. Assumes nothing.
-use mathlib.Core.Bool.{true, false, true≢false, false≢true}
+use mathlib.Core.Bool.{true, false, false≢true}
 use mathlib.Core.List.{List}
 use mathlib.Core.Logic.{_↔_}
-use mathlib.Core.Path.{_≡_, refl, sym, ap, _∙_}
-use Prim.Native.Nat.{ℕ}
+use mathlib.Core.Path.{_≡_, refl, ap, _∙_}
+use Prim.Native.Nat.{ℕ, _<_}
 use native.Mathlib.Omega.{arith}
 use borrow.Author.Tests.{ne-eqb}
-use lib.Dec.{eqb}
 use lib.ListN.{getD}
-use Rattle.headers.specs.Sets.{Header, WellFormed}
-use Rattle.answer.specs.Answer.{Outcome, refused, answered}
+use Rattle.headers.specs.Bits.{Words}
+use Rattle.headers.specs.Sets.{WellFormed}
+use Rattle.answer.specs.Answer.{Outcome, refused}
 use Rattle.file.specs.File.{headerWords}
-use Rattle.file.specs.Questions.{pick}
+use Rattle.file.specs.Questions.{firstNo}
 use Rattle.file.specs.Accepted.{Accepted}
 use Rattle.file.specs.declared.Shape.{Shape}
 use Rattle.file.specs.declared.Read.{Read}
@@ -30,7 +30,8 @@ use Rattle.fabric.specs.Questions.{Query, orRefused}
 use Rattle.fabric.specs.Run.{packetRun, packetWords, runQuestions, runAnswer, runCall}
 use Rattle.fabric.specs.Verdict.{verdictAsked, verdictWords, verdictQuestions, verdictAnswer, verdictCall}
 use Rattle.fabric.specs.List.{traceAsked, wordsAsked, listQuestions, listAnswer, listCall}
-use Rattle.fabric.specs.Demands.{Demand1, Demand2, FirstForeign, Demand3}
+use Rattle.fabric.specs.Demands.{Demand1, Demand2, Demand3}
+use Rattle.fabric.proofs.Asking.{all-yes}
 
 -- ---- demand 1
 
@@ -114,3 +115,16 @@ module _ (f : List ℕ) (s : Shape) (ok : Accepted f s) (q : Query) where
 
       exactly : isIsolated v ≡ true ↔ NoLeak F (q .limit) (q .port) (q .asked)
       exactly = verdicts.isolated-exactly F sound (q .limit) (q .port) (q .asked) edge wa
+
+  -- ---- so it holds of every query that is answered: the questions gave its premises, and a query's words are of 32 bits
+
+  module _ (area : List ℕ) (care : Words headerWords (q .asked .care)) (value : Words headerWords (q .asked .value)) where
+    pub demand-3-verdict : firstNo (verdictQuestions F q area) ≡ 0 → Demand3 F q
+    demand-3-verdict e =
+        let y = all-yes (verdictQuestions F q area) (omega arith, (omega arith, (omega arith, (omega arith, (omega arith, tt))))) e in
+        demand-3 (y .0) (record { care = care; value = value; is-tidy = y .1 .1 .0 })
+
+    pub demand-3-list : firstNo (listQuestions F q area) ≡ 0 → Demand3 F q
+    demand-3-list e =
+        let y = all-yes (listQuestions F q area) (omega arith, (omega arith, (omega arith, (omega arith, (omega arith, tt))))) e in
+        demand-3 (y .0) (record { care = care; value = value; is-tidy = y .1 .1 .0 })

@@ -9,9 +9,10 @@ use native.Mathlib.Omega.{arith}
 use borrow.Author.Tests.{leb-true, ltb-false}
 use lib.Dec.{eqb, ltb, leb}
 use lib.ListN.{length, length-append, length-map}
-use Rattle.headers.specs.Bits.{words, bitAt, positions, keepIf, those, setBits}
+use Rattle.headers.specs.Bits.{bitAt, positions, keepIf, those, setBits}
 use Rattle.headers.specs.Sets.{Set, overlaps, joined, intersection}
 use Rattle.headers.specs.Carving.{free, like, partsAt, parts, carve, Each}
+use Rattle.headers.proofs.Positions.{words-long}
 use Rattle.answer.specs.Answer.{writtenAt}
 use Rattle.forwarding.specs.Fabric.{Fabric, inPortOf, outPortOf, entriesWhere, undoes}
 use Rattle.forwarding.specs.BackTrace.{back, beaters}
@@ -25,10 +26,6 @@ use Rattle.fabric.specs.Tracing.{begin, playedThen, passOf}
 use Rattle.fabric.specs.declared.trace.Passed.{Passed}
 
 -- ---- carving leaves few parts, of as many words
-
-words-long : (n : ℕ) (g : ℕ → ℕ) → length (words n g) ≡ n
-words-long zero g = refl
-words-long (suc n) g = ap suc (words-long n (λ w. g (suc w)))
 
 -- a care mask and a value of n words
 abbrev Sized : ℕ → Set → Type 0
