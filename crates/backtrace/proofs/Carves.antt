@@ -11,7 +11,7 @@ use Rattle.headers.specs.Sets.{Set, WellFormed, overlaps}
 use Rattle.headers.specs.Carving.{parts, carve, nextCut}
 use Rattle.headers.specs.Forms.{setOf, nextOf}
 use Rattle.headers.specs.declared.NextPart.{NextPart}
-use Rattle.headers.proofs.Carved.{parts-end, parts-next}
+use Rattle.headers.proofs.Carved.{parts-end, parts-next, parts-last}
 use Rattle.file.specs.File.{entryIn}
 use Rattle.forwarding.specs.Fabric.{beats}
 use Rattle.forwarding.specs.Trace.{Event, unit, stop, carved, atInPort}
@@ -171,6 +171,21 @@ module _ {f ask index : List ℕ} {e next : ℕ} {m : Set} {d : ℕ} {path₀ co
         ≡ run f ask (flatMap of-part (parts 4 rest₀ m)) counters₀ area₀
     unfolding flatMap
     with-later = ap (λ (ps : List Set). run f ask (flatMap of-part ps) counters area) (sym (parts-are has)) ∙ x .left
+
+    -- it was the last part
+    pub part-last : cut .last ≡ true → {es : List Event} {counters₁ : List ℕ} → run f ask (flatMap of-part (parts 4 rest₀ m)) counters₀ area₀ ≡ run f ask es counters₁ area₀
+        → Traced f ask es counters₁ area₀ r counters′ area′
+    unfolding flatMap
+    part-last l whole = record {
+      played =
+          played
+          ∙ ap (λ (es : List Event). run f ask es counters area) (sym (append-nil (of-part (setOf (cut .part)))))
+          ∙ ap (λ (ps : List Set). run f ask (flatMap of-part ps) counters area)
+          (sym (parts-last 4 m (x .m-care) (x .m-value) rest (x .rest-care) _ (a-cut rest m cut is has) l))
+          ∙ x .left
+          ∙ whole;
+      counters-long = w .counters-long;
+    }
 
     pub part-through : r ≡ 0 → {path′ : List ℕ} → Kept d path path′ → length area′ ≡ length area
         → AtPart f ask index e next m d path₀ counters₀ area₀ rest₀ path′ counters′ area′ (setOf (cut .rest))

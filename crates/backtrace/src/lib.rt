@@ -292,7 +292,7 @@ fn carve<'a>(
     x: &'a [u8],
     e: usize,
     b: usize,
-    p: HeaderSet,
+    mut p: HeaderSet,
     d: usize,
     path: &mut [u32; 16],
     counters: &mut [u64; 2],
@@ -317,17 +317,19 @@ fn carve<'a>(
     if !p.overlaps(m) {
         return carve(file, ask, index, area, x, e, next, p, d, path, counters);
     }
-    let mut rest = p;
     loop {
-        let cut = rest.next_part(m);
+        let cut = p.next_part(m);
         if !cut.some {
             return 0;
         }
         let part = cut.part;
+        if cut.last {
+            return carve(file, ask, index, area, x, e, next, part, d, path, counters);
+        }
         let r = carve(file, ask, index, area, x, e, next, part, d, path, counters);
         if r != 0 {
             return r;
         }
-        rest = cut.rest;
+        p = cut.rest;
     }
 }

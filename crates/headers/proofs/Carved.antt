@@ -8,15 +8,15 @@ use native.Mathlib.Decide.{ℕ-discrete}
 use native.Mathlib.Omega.{arith}
 use borrow.Author.Tests.{eq-eqb, ne-eqb}
 use lib.Dec.{eqb}
-use Rattle.headers.specs.Bits.{word, words, every, Words, bitAt, positions, keepIf, those, setBits, single, alone, firstBit, noBit}
+use Rattle.headers.specs.Bits.{word, words, every, Words, bitAt, positions, keepIf, those, setBits, single, firstOf, firstSet, noBit}
 use Rattle.headers.specs.Sets.{Header, Set, contains, overlaps}
-use Rattle.headers.specs.Carving.{free, fixed, opposite, like, unlike, partsAt, parts, carve, Cut, cutAt, nextCut, one, holders}
+use Rattle.headers.specs.Carving.{free, opposite, turned, taking, like, unlike, partsAt, parts, carve, Cut, cutAt, nextCut, one, holders}
 use Rattle.headers.proofs.Booleans.{_⇒_, _==_, and-fst, and-snd, same-true, true-same, implied, implies, always}
 use Rattle.headers.proofs.Positions.{every-at, every-of}
 use Rattle.headers.proofs.Members.{contains-bits, member-exactly}
 use Rattle.headers.proofs.Intersection.{overlaps-bits, common-overlaps}
 use Rattle.headers.proofs.SetBits.{First, first-of, those-same, those-later, no-bit-none, none-no-bit}
-use Rattle.headers.proofs.Fixed.{free-bit, free-fits, opposite-bit, fixed-care, fixed-care-bit, fixed-value-bit, fixed-exact}
+use Rattle.headers.proofs.Fixed.{free-bit, free-fits, opposite-bit, fixed-care, fixed-care-bit, fixed-value-bit, fixed-exact, taking-fixed}
 
 module _ (n : ℕ) (b : Set) (cb : Words n (b .care)) (vb : Words n (b .value)) where
   -- p cares at every position below i at which b does
@@ -184,22 +184,52 @@ module _ (n : ℕ) (b : Set) (cb : Words n (b .care)) (vb : Words n (b .value)) 
       go (i ∷ l) d e =
           let f = first-of _ (n * 32) 0 i l d in
           let inside : i < n * 32 = omega (arith, f .high) in
-          let is : record { part = unlike n p b i; rest = like n p b i } ≡ c = cc in
+          let is : record { part = unlike n p b i; rest = like n p b i; last = noBit n (free n (like n p b i) b) } ≡ c = cc in
           subst (λ (c : Cut). unlike n p b i ∷ partsAt n (like n p b i) b l ≡ c .part ∷ partsAt n (c .rest) b (those (bitAt (free n (c .rest) b)) (positions (n * 32) 0))) is
           (ap (λ (m : List ℕ). unlike n p b i ∷ partsAt n (like n p b i) b m)
           (sym (those-later _ _ (n * 32) 0 i l (λ j a m q. like-free p cp i inside (f .passes) j (omega arith) q) (like-not-free p cp i inside (f .passes)) d)))
 
-  -- what the code cuts off: the first free bit opposite, or nothing where no bit is free
-  pub cut-none : (p : Set) → noBit n (free n p b) ≡ true → nextCut n p b ≡ none
+  -- nothing is cut off where no bit is free
+  cut-none : (p : Set) → noBit n (free n p b) ≡ true → nextCut n p b ≡ none
   unfolding nextCut
   cut-none p e = ap (cutAt n p b) (no-bit-none n (free n p b) (free-fits n p b cb) e)
 
-  pub cut-first : (p : Set) → noBit n (free n p b) ≡ false
-      → nextCut n p b ≡ some (record { part = fixed n (firstBit n (free n p b)) (opposite n (b .value)) p; rest = fixed n (firstBit n (free n p b)) (b .value) p })
-  unfolding nextCut firstBit
-  cut-first p e = go (setBits n (free n p b)) refl
+  cut-last : (p : Set) (c : Cut) → nextCut n p b ≡ some c → c .last ≡ noBit n (free n (c .rest) b)
+  unfolding nextCut
+  cut-last p c e = go (setBits n (free n p b)) e
     where
-      go : (l : List ℕ) → setBits n (free n p b) ≡ l
-          → cutAt n p b l ≡ some (record { part = fixed n (alone n l) (opposite n (b .value)) p; rest = fixed n (alone n l) (b .value) p })
-      go [] d = absurd (true≢false (sym (none-no-bit n (free n p b) (free-fits n p b cb) d) ∙ e))
-      go (i ∷ l) d = refl
+      go : (l : List ℕ) → cutAt n p b l ≡ some c → c .last ≡ noBit n (free n (c .rest) b)
+      go [] e = let z : _≡_ {A = ℕ} 0 1 = cc in absurd (omega arith)
+      go (i ∷ l) e =
+          let is : record { part = unlike n p b i; rest = like n p b i; last = noBit n (free n (like n p b i) b) } ≡ c = cc in
+          subst (λ (c : Cut). c .last ≡ noBit n (free n (c .rest) b)) is refl
+
+  -- a cut's part is the only one if no bit is left
+  pub parts-last : (p : Set) → Words n (p .care) → (c : Cut) → nextCut n p b ≡ some c → c .last ≡ true → parts n p b ≡ c .part ∷ []
+  parts-last p cp c e d = parts-next p cp c e ∙ ap (λ (l : List Set). c .part ∷ l) (parts-end (c .rest) (cut-none (c .rest) (sym (cut-last p c e) ∙ d)))
+
+  -- what the code cuts off: the first free bit opposite
+  abbrev pub cutBy : Set → List ℕ → Cut
+  cutBy p m = record { part = taking n m (turned n b) p; rest = taking n m b p; last = noBit n (free n (taking n m b p) b) }
+
+  pub cut-first : (p : Set) → Words n (p .care) → (firstSet n (free n p b) ≡ n * 32 → ⊥)
+      → nextCut n p b ≡ some (cutBy p (single n (firstSet n (free n p b))))
+  unfolding nextCut firstSet setBits
+  cut-first p cp e = go (those (bitAt (free n p b)) (positions (n * 32) 0)) refl e
+    where
+      go : (l : List ℕ) → those (bitAt (free n p b)) (positions (n * 32) 0) ≡ l → (firstOf (n * 32) l ≡ n * 32 → ⊥)
+          → cutAt n p b l ≡ some (cutBy p (single n (firstOf (n * 32) l)))
+      go [] d e = absurd (e refl)
+      go (i ∷ l) d e =
+          let f = first-of _ (n * 32) 0 i l d in
+          let cares = b-cares p cp i (omega (arith, f .high)) (f .passes) in
+          ap₂ (λ (s r : Set). some (record { part = s; rest = r; last = noBit n (free n r b) }))
+          (sym (taking-fixed n p (turned n b) i cp cb cares)) (sym (taking-fixed n p b i cp cb cares))
+
+  pub cut-nowhere : (p : Set) → firstSet n (free n p b) ≡ n * 32 → nextCut n p b ≡ none
+  unfolding nextCut firstSet setBits
+  cut-nowhere p e = go (those (bitAt (free n p b)) (positions (n * 32) 0)) refl e
+    where
+      go : (l : List ℕ) → those (bitAt (free n p b)) (positions (n * 32) 0) ≡ l → firstOf (n * 32) l ≡ n * 32 → cutAt n p b l ≡ none
+      go [] d e = refl
+      go (i ∷ l) d e = let f = first-of _ (n * 32) 0 i l d in absurd (omega (arith, f .high, e))

@@ -6,15 +6,15 @@ use Prim.Native.Nat.{ℕ, _-_, _*_, _/_, _%_, _^_, _<_}
 use native.Mathlib.Decide.{ℕ-discrete}
 use native.Mathlib.Nat.{lt-of-le-of-lt}
 use native.Mathlib.Omega.{arith}
-use borrow.Author.Tests.{eq-eqb, ne-eqb}
-use lib.Bits.{bitAnd, bitOr, and-le-l, and-le-r, or-lt}
+use borrow.Author.Tests.{eq-eqb, eqb-true}
+use lib.Bits.{bitAnd, bitOr, and-le-l, or-lt}
 use lib.Dec.{eqb}
 use Rattle.headers.specs.Bits.{word, words, every, Words, complement, bit, bitAt, single}
-use Rattle.headers.specs.Sets.{Header, Set, contains, WellFormed}
-use Rattle.headers.specs.Carving.{free, fixed, opposite}
+use Rattle.headers.specs.Sets.{Header, Set, overwrite, contains, WellFormed}
+use Rattle.headers.specs.Carving.{free, fixed, opposite, taking}
 use Rattle.headers.proofs.Booleans.{_⇒_, _==_, both-ways, same-true, implied, implies, always}
 use Rattle.headers.proofs.BitLaws.{bit-and, bit-or}
-use Rattle.headers.proofs.Positions.{at, every-at, every-of, every-same, every-and, words-fit, bit-of-words, complement-at, single-fits, single-bit}
+use Rattle.headers.proofs.Positions.{at, every-at, every-of, every-same, every-and, words-fit, words-ext, bit-of-words, complement-at, single-fits, single-bit}
 use Rattle.headers.proofs.Members.{contains-bits, value-inside, well-formed}
 
 -- ---- the bits of what carving works with
@@ -36,6 +36,21 @@ opposite-bit n x f i l = bit-of-words n _ i l ∙ complement-at (word x) i (f .f
 pub opposite-fits : (n : ℕ) (x : List ℕ) → Words n (opposite n x)
 opposite-fits n x = words-fit n _ (λ w l. omega arith)
 
+-- ---- one bit overwritten
+
+overwritten-bit : (n i j : ℕ) → j < n * 32 → (x a : ℕ → ℕ)
+    → at (λ w. overwrite (word (single n i) w) (x w) (a w)) j ≡ (at a j && not (eqb i j) || at x j && eqb i j)
+unfolding bitAt
+overwritten-bit n i j l x a =
+    bit-or _ _ _
+    ∙ ap₂ _||_
+    (bit-and _ _ _ ∙ ap (λ (b : Bool). at a j && b)
+    (complement-at (word (single n i)) j (single-fits n i .fits (j / 32) (omega arith)) ∙ ap not (single-bit n i j l)))
+    (bit-and _ _ _ ∙ ap (λ (b : Bool). at x j && b) (single-bit n i j l))
+
+overwritten-fits : (m x a : ℕ) → a < 2 ^ 32 → x < 2 ^ 32 → overwrite m x a < 2 ^ 32
+overwritten-fits m x a ha hx = or-lt 32 _ _ (lt-of-le-of-lt (and-le-l a (complement m)) ha) (lt-of-le-of-lt (and-le-l x m) hx)
+
 -- ---- one bit fixed
 
 module _ (n : ℕ) (p : Set) (x : List ℕ) (i : ℕ) where
@@ -50,25 +65,17 @@ module _ (n : ℕ) (p : Set) (x : List ℕ) (i : ℕ) where
   pub fixed-value-bit : (j : ℕ) → j < n * 32
       → bitAt (fixed n (single n i) x p .value) j ≡ (bitAt (p .value) j && not (eqb i j) || bitAt x j && eqb i j)
   unfolding bitAt
-  fixed-value-bit j l =
-      bit-of-words n _ j l ∙ bit-or _ _ _
-      ∙ ap₂ _||_
-      (bit-and _ _ _ ∙ ap (λ (b : Bool). at (word (p .value)) j && b)
-      (complement-at (word (single n i)) j (single-fits n i .fits (j / 32) (omega arith)) ∙ ap not (single-bit n i j l)))
-      (bit-and _ _ _ ∙ ap (λ (b : Bool). at (word x) j && b) (single-bit n i j l))
+  fixed-value-bit j l = bit-of-words n _ j l ∙ overwritten-bit n i j l (word x) (word (p .value))
 
   pub fixed-well-formed : Words n x → WellFormed n p → WellFormed n (fixed n (single n i) x p)
-  fixed-well-formed fx w = well-formed n (fixed n (single n i) x p) (fixed-care (w .care)) value-fits λ j l.
+  fixed-well-formed fx w₀ = well-formed n (fixed n (single n i) x p) (fixed-care (w₀ .care)) value-fits λ j l.
       ap₂ _⇒_ (fixed-value-bit j l) (fixed-care-bit j l)
       ∙ implied _ _
       (always (λ c v x s z. (v ⇒ c) ⇒ (v && not s || x && s ⇒ c || s)) tt (bitAt (p .care) j) (bitAt (p .value) j) (bitAt x j) (eqb i j) true)
-      (value-inside n p w j l)
+      (value-inside n p w₀ j l)
     where
       value-fits : Words n (fixed n (single n i) x p .value)
-      value-fits = words-fit n _ λ w l.
-          or-lt 32 _ _
-          (lt-of-le-of-lt (and-le-r (word (p .value) w) (complement (word (single n i) w))) (omega arith))
-          (lt-of-le-of-lt (and-le-l (word x w) (word (single n i) w)) (fx .fits w l))
+      value-fits = words-fit n _ λ w l. overwritten-fits (word (single n i) w) (word x w) (word (p .value) w) (w₀ .value .fits w l) (fx .fits w l)
 
   -- a header is in it exactly if it is in p and has x's bit there
   pub fixed-exact : Words n (p .care) → i < n * 32 → bitAt (p .care) i ≡ false → (h : Header)
@@ -80,11 +87,27 @@ module _ (n : ℕ) (p : Set) (x : List ℕ) (i : ℕ) where
       ∙ same-true _ _ (implied _ _
       (always (λ h c v x s. (s ⇒ not c) ⇒ (c || s ⇒ h == (v && not s || x && s)) == ((c ⇒ h == v) && (s ⇒ h == x))) tt
       (bitAt h j) (bitAt (p .care) j) (bitAt (p .value) j) (bitAt x j) (eqb i j))
-      (implies _ _ (λ e. ap (λ (k : ℕ). not (bitAt (p .care) k)) (sym (borrow.Author.Tests.eqb-true i j e)) ∙ ap not free))))
+      (implies _ _ (λ e. ap (λ (k : ℕ). not (bitAt (p .care) k)) (sym (eqb-true i j e)) ∙ ap not free))))
       ∙ every-and (n * 32) _ _
       ∙ ap₂ _&&_ (sym (contains-bits n p c h)) here
     where
       here : every (n * 32) (λ j. eqb i j ⇒ bitAt h j == bitAt x j) ≡ (bitAt h i == bitAt x i)
       here = both-ways _ _
           (λ e. implied _ _ (every-at (n * 32) _ e i inside) (eq-eqb i i refl))
-          (λ e. every-of (n * 32) _ λ j l. implies _ _ λ d. ap (λ (k : ℕ). bitAt h k == bitAt x k) (sym (borrow.Author.Tests.eqb-true i j d)) ∙ e)
+          (λ e. every-of (n * 32) _ λ j l. implies _ _ λ d. ap (λ (k : ℕ). bitAt h k == bitAt x k) (sym (eqb-true i j d)) ∙ e)
+
+-- ---- the bits of a mask taken from a set
+
+-- taking a bit that b cares for from b is fixing it at b's value
+pub taking-fixed : (n : ℕ) (p b : Set) (i : ℕ) → Words n (p .care) → Words n (b .care) → bitAt (b .care) i ≡ true
+    → taking n (single n i) b p ≡ fixed n (single n i) (b .value) p
+unfolding bitAt
+taking-fixed n p b i cp cb cares =
+    ap (λ (c : List ℕ). record { care = c; value = taking n (single n i) b p .value })
+    (words-ext n _ _ (words-fit n _ (λ w l. overwritten-fits (word (single n i) w) (word (b .care) w) (word (p .care) w) (cp .fits w l) (cb .fits w l)))
+    (fixed-care n p (b .value) i cp) λ j l.
+    bit-of-words n _ j l ∙ overwritten-bit n i j l (word (b .care)) (word (p .care))
+    ∙ same-true _ _ (implied _ _
+    (always (λ c d s y z. (s ⇒ d) ⇒ (c && not s || d && s) == (c || s)) tt (bitAt (p .care) j) (bitAt (b .care) j) (eqb i j) true true)
+    (implies _ _ (λ e. ap (bitAt (b .care)) (sym (eqb-true i j e)) ∙ cares)))
+    ∙ sym (fixed-care-bit n p (b .value) i j l))

@@ -6,10 +6,10 @@ use Prim.Native.Nat.{ℕ, zero, suc, _+_, _-_, _*_, _/_, _%_, _^_, _≤_, _<_}
 use native.Mathlib.Decide.{ℕ-discrete, decLt}
 use native.Mathlib.Nat.{zero-add, add-suc}
 use native.Mathlib.Omega.{arith}
-use borrow.Author.Tests.{eq-eqb, ne-eqb}
-use lib.Count.{leadingZeros, leading-top, leading-le}
+use borrow.Author.Count.{below-more}
+use lib.Count.{leadingZeros, leading-top, leading-of-zero}
 use lib.Dec.{eqb}
-use Rattle.headers.specs.Bits.{word, words, every, Words, bit, bitAt, positions, keepIf, those, setBits, single, alone, firstBit, noBit, topBit}
+use Rattle.headers.specs.Bits.{word, words, every, Words, bit, bitAt, positions, keepIf, those, setBits, firstOf, firstSet, noBit}
 use Rattle.headers.proofs.BitLaws.{bit-top, bit-high, bit-zero}
 use Rattle.headers.proofs.Positions.{at, every-at, every-of, zero-bits}
 
@@ -82,18 +82,17 @@ none-passes t (suc k) s e i l m = go (t s) refl e (none-passes t k (suc s))
         at-first (yes q) = ap t q ∙ d
         at-first (no q) = ih e i (omega arith) (omega arith)
 
-alone-first : (n : ℕ) (t : ℕ → Bool) (k s i : ℕ) → s ≤ i → i < s + k → t i ≡ true → ((j : ℕ) → j < i → t j ≡ false)
-    → alone n (those t (positions k s)) ≡ single n i
+first-is : (d : ℕ) (t : ℕ → Bool) (k s i : ℕ) → s ≤ i → i < s + k → t i ≡ true → ((j : ℕ) → j < i → t j ≡ false)
+    → firstOf d (those t (positions k s)) ≡ i
 unfolding those positions
-alone-first n t zero s i l m e h = absurd (omega arith)
-alone-first n t (suc k) s i l m e h = go (ℕ-discrete s i) (alone-first n t k (suc s) i)
+first-is d t zero s i l m e h = absurd (omega arith)
+first-is d t (suc k) s i l m e h = go (ℕ-discrete s i) (first-is d t k (suc s) i)
   where
-    go : Dec (s ≡ i) → (suc s ≤ i → i < suc s + k → t i ≡ true → ((j : ℕ) → j < i → t j ≡ false) → alone n (those t (positions k (suc s))) ≡ single n i)
-        → alone n (keepIf (t s) s (those t (positions k (suc s)))) ≡ single n i
-    go (yes q) ih =
-        ap (λ (b : Bool). alone n (keepIf b s (those t (positions k (suc s))))) (ap t q ∙ e) ∙ ap (single n) q
+    go : Dec (s ≡ i) → (suc s ≤ i → i < suc s + k → t i ≡ true → ((j : ℕ) → j < i → t j ≡ false) → firstOf d (those t (positions k (suc s))) ≡ i)
+        → firstOf d (keepIf (t s) s (those t (positions k (suc s)))) ≡ i
+    go (yes q) ih = ap (λ (b : Bool). firstOf d (keepIf b s (those t (positions k (suc s))))) (ap t q ∙ e) ∙ q
     go (no q) ih =
-        ap (λ (b : Bool). alone n (keepIf b s (those t (positions k (suc s))))) (h s (omega arith)) ∙ ih (omega arith) (omega arith) e h
+        ap (λ (b : Bool). firstOf d (keepIf b s (those t (positions k (suc s))))) (h s (omega arith)) ∙ ih (omega arith) (omega arith) e h
 
 -- ---- the first bit that is set
 
@@ -115,7 +114,7 @@ none-no-bit n l w e =
 pub record TopBit (x : ℕ) : Type 0 where
   pub place : ℕ
   pub low : place < 32
-  pub is : 31 - leadingZeros 32 x ≡ place
+  pub is : leadingZeros 32 x ≡ 31 - place
   pub is-set : bit x place ≡ true
   pub above : (k : ℕ) → place < k → bit x k ≡ false
 
@@ -131,13 +130,12 @@ top-bit x p h =
     }
 
 -- in the first word that is not 0 the first set bit is its highest
-pub first-bit-in : (n : ℕ) (l : List ℕ) (w : ℕ) → w < n → ((v : ℕ) → v < w → word l v ≡ 0) → 0 < word l w → word l w < 2 ^ 32
-    → firstBit n l ≡ words n (λ v. cond (eqb v w) (topBit (word l w)) 0)
-unfolding firstBit setBits bitAt single
-first-bit-in n l w inside zeros p h =
-    alone-first n _ (n * 32) 0 i (omega arith) (omega arith) here before
-    ∙ ap (λ (a : ℕ). words n (λ v. cond (eqb v a) (2 ^ (31 - i % 32)) 0)) (let e : i / 32 ≡ w = omega arith in e)
-    ∙ ap (λ (a : ℕ). words n (λ v. cond (eqb v w) (2 ^ a) 0)) (let e : 31 - i % 32 ≡ 31 - leadingZeros 32 (word l w) = omega (arith, t .is) in e)
+pub first-set-in : (n : ℕ) (l : List ℕ) (w : ℕ) → w < n → ((v : ℕ) → v < w → word l v ≡ 0) → 0 < word l w → word l w < 2 ^ 32
+    → firstSet n l ≡ w * 32 + leadingZeros 32 (word l w)
+unfolding firstSet setBits bitAt
+first-set-in n l w inside zeros p h =
+    first-is (n * 32) _ (n * 32) 0 i (omega (arith, lo)) (omega (arith, lo)) here before
+    ∙ (let e : i ≡ w * 32 + leadingZeros 32 (word l w) = omega (arith, lo, t .is) in e)
   where
     t : TopBit (word l w)
     t = top-bit (word l w) p h
@@ -166,10 +164,19 @@ first-bit-in n l w inside zeros p h =
             let a : k / 32 ≡ w = omega (arith, lo) in
             rw a (t .above (31 - k % 32) (omega (arith, lo)))
 
-pub first-bit-none : (n : ℕ) (l : List ℕ) → ((v : ℕ) → v < n → word l v ≡ 0) → firstBit n l ≡ words n (λ w. 0)
-unfolding firstBit setBits bitAt
-first-bit-none n l zeros = ap (alone n) (those-none _ (n * 32) 0 λ i p m.
-    ap (λ (x : ℕ). bit x (31 - i % 32)) (zeros (i / 32) (omega arith)) ∙ bit-zero (31 - i % 32))
+-- where all words before the last are 0, it is in the last or past it
+pub first-set-last : (n : ℕ) (l : List ℕ) → ((v : ℕ) → v < n → word l v ≡ 0) → word l n < 2 ^ 32
+    → firstSet (suc n) l ≡ n * 32 + leadingZeros 32 (word l n)
+unfolding firstSet setBits bitAt
+first-set-last n l zeros h = go (ℕ-discrete (word l n) 0)
+  where
+    none : word l n ≡ 0 → firstSet (suc n) l ≡ suc n * 32
+    none z = ap (firstOf (suc n * 32)) (those-none _ (suc n * 32) 0 λ i p m.
+        ap (λ (x : ℕ). bit x (31 - i % 32)) (below-more (λ v. word l v ≡ 0) n zeros z (i / 32) (omega arith)) ∙ bit-zero (31 - i % 32))
+
+    go : Dec (word l n ≡ 0) → firstSet (suc n) l ≡ n * 32 + leadingZeros 32 (word l n)
+    go (yes z) = none z ∙ (let e : suc n * 32 ≡ n * 32 + leadingZeros 32 (word l n) = rw z (omega (arith, leading-of-zero 32)) in e)
+    go (no z) = first-set-in (suc n) l n (omega arith) zeros (omega arith) h
 
 -- ---- from first to last
 

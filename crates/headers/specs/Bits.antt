@@ -4,7 +4,6 @@ use mathlib.Core.Bool.{Bool, true, false, _&&_, cond}
 use mathlib.Core.List.{List, [], _∷_}
 use Prim.Native.Nat.{ℕ, zero, suc, _-_, _*_, _/_, _%_, _^_, _<_}
 use mathlib.Core.Path.{_≡_}
-use lib.Count.{leadingZeros}
 use lib.Dec.{eqb}
 use lib.ListN.{length, getD}
 
@@ -61,18 +60,14 @@ setBits n l = those (bitAt l) (positions (n * 32) 0)
 unfoldable pub single : ℕ → ℕ → List ℕ
 single n i = words n (λ w. cond (eqb w (i / 32)) (2 ^ (31 - i % 32)) 0)
 
--- the first bit that is set in n words, alone; no bit where none is set
-abbrev pub alone : ℕ → List ℕ → List ℕ
-alone n [] = words n (λ w. 0)
-alone n (i ∷ later) = single n i
+abbrev pub firstOf : ℕ → List ℕ → ℕ
+firstOf none-is [] = none-is
+firstOf none-is (i ∷ later) = i
 
-unfoldable pub firstBit : ℕ → List ℕ → List ℕ
-firstBit n l = alone n (setBits n l)
+-- the position of the first bit that is set in n words; past their end where none is
+unfoldable pub firstSet : ℕ → List ℕ → ℕ
+firstSet n l = firstOf (n * 32) (setBits n l)
 
 -- no word has a bit set
 abbrev pub noBit : ℕ → List ℕ → Bool
 noBit n l = every n (λ w. eqb (word l w) 0)
-
--- the highest set bit of a word that is not 0, alone
-abbrev pub topBit : ℕ → ℕ
-topBit x = 2 ^ (31 - leadingZeros 32 x)

@@ -4,7 +4,7 @@ use mathlib.Core.List.{List, [], _∷_}
 use mathlib.Core.Option.{Option, some, none}
 use Prim.Native.Nat.{ℕ, _+_}
 use lib.Bits.{bitAnd, bitOr}
-use Rattle.headers.specs.Bits.{word, words, complement, setBits, single}
+use Rattle.headers.specs.Bits.{word, words, complement, setBits, single, noBit}
 use Rattle.headers.specs.Sets.{Header, Set, overwrite, contains, overlaps}
 
 -- "the bits .. that B cares for and P doesn't"
@@ -21,6 +21,17 @@ fixed n m x p = record {
 -- every word turned round
 abbrev pub opposite : ℕ → List ℕ → List ℕ
 opposite n x = words n (λ w. complement (word x w))
+
+-- B with every bit of its value turned round
+abbrev pub turned : ℕ → Set → Set
+turned n b = record { care = b .care; value = opposite n (b .value) }
+
+-- P with the bits of a mask as in B: where B cares for them, this is `fixed`
+abbrev pub taking : ℕ → List ℕ → Set → Set → Set
+taking n m b p = record {
+  care = words n (λ w. overwrite (word m w) (word (b .care) w) (word (p .care) w));
+  value = words n (λ w. overwrite (word m w) (word (b .value) w) (word (p .value) w));
+}
 
 -- P with the bit at position i as in B
 abbrev pub like : ℕ → Set → Set → ℕ → Set
@@ -45,14 +56,15 @@ carve n p b = cond (overlaps n p b) (parts n p b) (p ∷ [])
 
 -- ---- carving part by part
 
--- one part, and what P is for the parts after it
+-- one part, what P is for the parts after it, and whether no such bit is left
 pub record Cut : Type 0 where
   pub part : Set
   pub rest : Set
+  pub last : Bool
 
 abbrev pub cutAt : ℕ → Set → Set → List ℕ → Option Cut
 cutAt n p b [] = none
-cutAt n p b (i ∷ later) = some (record { part = unlike n p b i; rest = like n p b i })
+cutAt n p b (i ∷ later) = some (record { part = unlike n p b i; rest = like n p b i; last = noBit n (free n (like n p b i) b) })
 
 -- the first of the parts, if there is one
 unfoldable pub nextCut : ℕ → Set → Set → Option Cut

@@ -28,5 +28,5 @@ maybeOf (some s) = record { some = true; set = formOf s }
 
 -- 'no part' is `some` false, with all-wild sets in the unused places
 abbrev pub nextOf : Option Cut → NextPart
-nextOf none = record { some = false; part = formOf (allWild 4); rest = formOf (allWild 4) }
-nextOf (some c) = record { some = true; part = formOf (c .part); rest = formOf (c .rest) }
+nextOf none = record { some = false; last = false; part = formOf (allWild 4); rest = formOf (allWild 4) }
+nextOf (some c) = record { some = true; last = c .last; part = formOf (c .part); rest = formOf (c .rest) }

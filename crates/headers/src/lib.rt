@@ -2,11 +2,13 @@
 // Document 01, "Header sets". What each call means is in specs/Sets.antt and specs/Carving.antt, for any number of words;
 // what follows from it is in proofs/: Members, Intersection, Undoing, Carved, Parts.
 ghost use mathlib.Core.Path.{_≡_};
-ghost use mathlib.Core.Bool.{_&&_};
-ghost use Prim.Native.Nat.{_<_};
-ghost use Rattle.headers.specs.Bits.{firstBit, noBit, topBit};
+ghost use mathlib.Core.Bool.{_&&_, cond};
+ghost use Prim.Native.Nat.{_-_, _/_, _%_, _^_, _≤_};
+ghost use lib.Count.{leadingZeros};
+ghost use lib.Dec.{eqb};
+ghost use Rattle.headers.specs.Bits.{noBit, firstSet, single};
 ghost use Rattle.headers.specs.Sets.{contains, tidy, overlaps, joined, intersection, rewritten, widened, undone, lowest, allWild, noRewrite, writes};
-ghost use Rattle.headers.specs.Carving.{free, fixed, opposite, nextCut};
+ghost use Rattle.headers.specs.Carving.{free, turned, taking, nextCut};
 ghost use Rattle.headers.specs.Forms.{setOf, rewriteOf, formOf, maybeOf, nextOf};
 
 // The headers that equal the value on every care bit.
@@ -27,9 +29,10 @@ pub struct MaybeSet {
     pub set: HeaderSet,
 }
 
-// The first part of a carving and the set that the later parts are made of, or no part where `some` is false.
+// The first part of a carving, whether it is the last, and the set that the later parts are made of; no part where `some` is false.
 pub struct NextPart {
     pub some: bool,
+    pub last: bool,
     pub part: HeaderSet,
     pub rest: HeaderSet,
 }
@@ -138,18 +141,35 @@ impl HeaderSet {
         [d[0] & !c[0], d[1] & !c[1], d[2] & !c[2], d[3] & !c[3]]
     }
 
-    // The set caring for the bits of a mask too, with x's values there.
-    fn fixed(self, m: [u32; 4], x: [u32; 4]) -> HeaderSet
-        ensures { λ r. ⌜ r ≡ formOf (fixed 4 m x (setOf self)) ⌝ }
+    // The set with every bit of its value turned round.
+    fn turned(self) -> HeaderSet
+        ensures { λ r. ⌜ r ≡ formOf (turned 4 (setOf self)) ⌝ }
+    {
+        let care = self.care;
+        let v = self.value;
+        let value = [!v[0], !v[1], !v[2], !v[3]];
+        HeaderSet { care, value }
+    }
+
+    // The set with the bits of a mask as in b.
+    fn taking(self, m: [u32; 4], b: HeaderSet) -> HeaderSet
+        ensures { λ r. ⌜ r ≡ formOf (taking 4 m (setOf b) (setOf self)) ⌝ }
     {
         let c = self.care;
         let v = self.value;
-        let care = [c[0] | m[0], c[1] | m[1], c[2] | m[2], c[3] | m[3]];
+        let d = b.care;
+        let w = b.value;
+        let care = [
+            c[0] & !m[0] | d[0] & m[0],
+            c[1] & !m[1] | d[1] & m[1],
+            c[2] & !m[2] | d[2] & m[2],
+            c[3] & !m[3] | d[3] & m[3],
+        ];
         let value = [
-            v[0] & !m[0] | x[0] & m[0],
-            v[1] & !m[1] | x[1] & m[1],
-            v[2] & !m[2] | x[2] & m[2],
-            v[3] & !m[3] | x[3] & m[3],
+            v[0] & !m[0] | w[0] & m[0],
+            v[1] & !m[1] | w[1] & m[1],
+            v[2] & !m[2] | w[2] & m[2],
+            v[3] & !m[3] | w[3] & m[3],
         ];
         HeaderSet { care, value }
     }
@@ -158,20 +178,22 @@ impl HeaderSet {
     pub fn next_part(self, b: HeaderSet) -> NextPart
         ensures { λ r. ⌜ r ≡ nextOf (nextCut 4 (setOf self) (setOf b)) ⌝ }
     {
-        let bits = self.free(b);
-        if none_set(bits) {
+        let i = first_set(self.free(b));
+        if i == 128 {
             return NextPart {
                 some: false,
+                last: false,
                 part: HeaderSet::all_wild(),
                 rest: HeaderSet::all_wild(),
             };
         }
-        let first = first_bit(bits);
-        let v = b.value;
-        let part = self.fixed(first, opposite(v));
-        let rest = self.fixed(first, v);
+        let first = single(i);
+        let part = self.taking(first, b.turned());
+        let rest = self.taking(first, b);
+        let last = none_set(rest.free(b));
         NextPart {
             some: true,
+            last,
             part,
             rest,
         }
@@ -230,42 +252,53 @@ impl Action {
     }
 }
 
-// Every bit turned round.
-fn opposite(x: [u32; 4]) -> [u32; 4]
-    ensures { λ r. ⌜ r ≡ opposite 4 x ⌝ }
-{
-    [!x[0], !x[1], !x[2], !x[3]]
-}
-
 fn none_set(x: [u32; 4]) -> bool
     ensures { λ r. ⌜ r ≡ noBit 4 x ⌝ }
 {
     (x[0] == 0) & (x[1] == 0) & (x[2] == 0) & (x[3] == 0)
 }
 
-// The highest set bit of a word, alone.
-fn top_bit(x: u32) -> u32
-    requires { ⌜ 0 < x ⌝ }
-    ensures { λ r. ⌜ r ≡ topBit x ⌝ }
+fn leading_zeros(x: u32) -> u32
+    ensures { λ r. ⌜ (r ≡ leadingZeros 32 x) × (r ≤ 32) ⌝ }
 {
-    1u32 << (31 - u32::leading_zeros(x))
+    u32::leading_zeros(x)
 }
 
-// The first set bit, alone; no bit where none is set.
-fn first_bit(x: [u32; 4]) -> [u32; 4]
-    ensures { λ r. ⌜ r ≡ firstBit 4 x ⌝ }
+// The position of the first set bit; 128 where none is set.
+fn first_set(x: [u32; 4]) -> u32
+    ensures { λ r. ⌜ r ≡ firstSet 4 x ⌝ }
 {
     if x[0] != 0 {
-        return [top_bit(x[0]), 0, 0, 0];
+        return leading_zeros(x[0]);
     }
     if x[1] != 0 {
-        return [0, top_bit(x[1]), 0, 0];
+        return 32 + leading_zeros(x[1]);
     }
     if x[2] != 0 {
-        return [0, 0, top_bit(x[2]), 0];
+        return 64 + leading_zeros(x[2]);
     }
-    if x[3] != 0 {
-        return [0, 0, 0, top_bit(x[3])];
+    96 + leading_zeros(x[3])
+}
+
+// Word w of four words with the one bit at position i.
+fn single_at(i: u32, w: u32) -> u32
+    ensures { λ r. ⌜ r ≡ cond (eqb w (i / 32)) (2 ^ (31 - i % 32)) 0 ⌝ }
+{
+    if i / 32 == w {
+        1u32 << (31 - i % 32)
+    } else {
+        0
     }
-    [0, 0, 0, 0]
+}
+
+// Four words with the one bit at position i.
+fn single(i: u32) -> [u32; 4]
+    ensures { λ r. ⌜ r ≡ single 4 i ⌝ }
+{
+    [
+        single_at(i, 0),
+        single_at(i, 1),
+        single_at(i, 2),
+        single_at(i, 3),
+    ]
 }

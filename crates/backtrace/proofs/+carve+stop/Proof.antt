@@ -15,7 +15,7 @@ use Rattle.backtrace.proofs.Entries.{entry-long}
 use Rattle.backtrace.proofs.Paths.{kept-same, kept-on}
 use Rattle.backtrace.proofs.Tracings.{entries-from, after-unit, after-push}
 use Rattle.backtrace.proofs.Stops.{at-edge, no-link, no-hop, AtEntry, first-entry, entries-end, kept-under, later-entry, entry-refused, entry-empty, entry-ended, entry-through}
-use Rattle.backtrace.proofs.Carves.{place-found, through, trial-refused, trial-apart, trial-parts, AtPart, first-part, fewer-parts, part-through, part-ended, parts-done}
+use Rattle.backtrace.proofs.Carves.{place-found, through, trial-refused, trial-apart, trial-parts, AtPart, first-part, fewer-parts, part-through, part-last, part-ended, parts-done}
 use Prim.Native.Nat.{ℕ, _<_}
 use borrow.Fn.Kinds.{In}
 use borrow.Fn.PlainCycle.{Measures, is, falls, and}
@@ -113,12 +113,12 @@ stop-E t = (
 )
 
 abbrev carve-Inv-loop : carve-lts.InvT-loop
-carve-Inv-loop file ask index area₀ x e b d path₀ counters₀ base m next rest₀ area path counters rest =
-    AtPart file ask index e next (setOf m) d path₀ counters₀ area₀ (setOf rest₀) path counters area (setOf rest)
+carve-Inv-loop file ask index area₀ x e b p₀ d path₀ counters₀ base m next area p path counters =
+    AtPart file ask index e next (setOf m) d path₀ counters₀ area₀ (setOf p₀) path counters area (setOf p)
 
 abbrev carve-μ-loop : carve-lts.MeasureT-loop
-carve-μ-loop file ask index area₀ x e b d path₀ counters₀ base m next rest₀ area path counters rest =
-    length (parts 4 (setOf rest) (setOf m))
+carve-μ-loop file ask index area₀ x e b p₀ d path₀ counters₀ base m next area p path counters =
+    length (parts 4 (setOf p) (setOf m))
 
 carve-in-port-requires : (t : ℕ) → carve-lts.Need-in-port-requires (carve-E t) (carve-at t) carve.Post carve-Inv-loop carve-μ-loop
 carve-in-port-requires t c κs =
@@ -250,9 +250,9 @@ carve-returns-4 t c =
 
 carve-carve-requires-2 : (t : ℕ) → carve-lts.Need-carve-requires-2 (carve-E t) (carve-at t) carve.Post carve-Inv-loop carve-μ-loop
 carve-carve-requires-2 t c κs =
-    let pre = c .before .before .before .before .before .before .before .before .before .before .before .before .before .before .before .before .before .before .before .before .pre in
-    let beater-after = c .before .before .before .before .before .before .before .before .before .before .beater-after in
-    let loop = c .before .before .before .before .before .before .before .loop in (
+    let pre = c .before .before .before .before .before .before .before .before .before .before .before .before .before .before .before .before .before .before .before .before .before .pre in
+    let beater-after = c .before .before .before .before .before .before .before .before .before .before .before .beater-after in
+    let loop = c .before .before .before .before .before .before .before .before .loop in (
       omega (arith, pre .0, beater-after .ensures .low, beater-after .ensures .beater .within),
       (loop .inv .tracing, (pre .1 .1 .0, beater-after .ensures .beater)),
     )
@@ -260,7 +260,7 @@ carve-carve-requires-2 t c κs =
 carve-same-length-4 : (t : ℕ) → carve-lts.Need-same-length-4 (carve-E t) (carve-at t) carve.Post carve-Inv-loop carve-μ-loop
 carve-same-length-4 t c =
     let loop = c .before .before .before .before .before .before .before .before .before .before .before .loop in
-    let carved = c .before .before .before .carve2 in
+    let carved = c .before .before .carve2 in
     carved .kept .1 .1 .1 .0 ∙ loop .inv .area-long
 
 carve-returns-5 : (t : ℕ) → carve-lts.Need-returns-5 (carve-E t) (carve-at t) carve.Post carve-Inv-loop carve-μ-loop
@@ -276,8 +276,43 @@ carve-returns-5 t c =
     let loop = c .before .before .before .before .before .before .before .before .before .before .before .loop in
     let next-part = c .before .before .before .before .before .before .before .before .before .before .next-part in
     let if4 = c .before .before .before .before .before .before .before .before .if4 in
-    let carved = c .before .before .before .carve2 in (
-      part-ended (loop .inv) (next-part .ensures) (not-false _ (if4 .left)) (carved .ensures .0) (c .if5 .taken)
+    let carved = c .before .before .carve2 in (
+      part-last (loop .inv) (next-part .ensures) (not-false _ (if4 .left)) (carved .ensures .0) (c .before .before .before .before .before .before .if5 .taken)
+          (trial-parts _ (pre .1 .1) (if1 .left) (unit .ensures) (not-false _ (if2 .left)) (beater-after .ensures) (match-at .ensures)
+          _ _ _ _ (overlaps .ensures) (not-false _ (if3 .left))),
+      kept-on (loop .inv .kept) (carved .ensures .1),
+    )
+
+carve-carve-requires-3 : (t : ℕ) → carve-lts.Need-carve-requires-3 (carve-E t) (carve-at t) carve.Post carve-Inv-loop carve-μ-loop
+carve-carve-requires-3 t c κs =
+    let pre = c .before .before .before .before .before .before .before .before .before .before .before .before .before .before .before .before .before .before .before .before .before .pre in
+    let beater-after = c .before .before .before .before .before .before .before .before .before .before .before .beater-after in
+    let loop = c .before .before .before .before .before .before .before .before .loop in (
+      omega (arith, pre .0, beater-after .ensures .low, beater-after .ensures .beater .within),
+      (loop .inv .tracing, (pre .1 .1 .0, beater-after .ensures .beater)),
+    )
+
+carve-same-length-5 : (t : ℕ) → carve-lts.Need-same-length-5 (carve-E t) (carve-at t) carve.Post carve-Inv-loop carve-μ-loop
+carve-same-length-5 t c =
+    let loop = c .before .before .before .before .before .before .before .before .before .before .before .before .loop in
+    let carved = c .before .before .before .carve3 in
+    carved .kept .1 .1 .1 .0 ∙ loop .inv .area-long
+
+carve-returns-6 : (t : ℕ) → carve-lts.Need-returns-6 (carve-E t) (carve-at t) carve.Post carve-Inv-loop carve-μ-loop
+carve-returns-6 t c =
+    let pre = c .before .before .before .before .before .before .before .before .before .before .before .before .before .before .before .before .before .before .before .before .before .before .before .before .before .pre .1 in
+    let if1 = c .before .before .before .before .before .before .before .before .before .before .before .before .before .before .before .before .before .before .before .before .before .if1 in
+    let unit = c .before .before .before .before .before .before .before .before .before .before .before .before .before .before .before .before .before .before .before .unit in
+    let if2 = c .before .before .before .before .before .before .before .before .before .before .before .before .before .before .before .before .before .before .if2 in
+    let match-at = c .before .before .before .before .before .before .before .before .before .before .before .before .before .before .before .before .match-at in
+    let beater-after = c .before .before .before .before .before .before .before .before .before .before .before .before .before .before .before .beater-after in
+    let overlaps = c .before .before .before .before .before .before .before .before .before .before .before .before .before .before .overlaps in
+    let if3 = c .before .before .before .before .before .before .before .before .before .before .before .before .before .if3 in
+    let loop = c .before .before .before .before .before .before .before .before .before .before .before .before .loop in
+    let next-part = c .before .before .before .before .before .before .before .before .before .before .before .next-part in
+    let if4 = c .before .before .before .before .before .before .before .before .before .if4 in
+    let carved = c .before .before .before .carve3 in (
+      part-ended (loop .inv) (next-part .ensures) (not-false _ (if4 .left)) (carved .ensures .0) (c .if6 .taken)
           (trial-parts _ (pre .1 .1) (if1 .left) (unit .ensures) (not-false _ (if2 .left)) (beater-after .ensures) (match-at .ensures)
           _ _ _ _ (overlaps .ensures) (not-false _ (if3 .left))),
       kept-on (loop .inv .kept) (carved .ensures .1),
@@ -285,18 +320,18 @@ carve-returns-5 t c =
 
 carve-loop-less : (t : ℕ) → carve-lts.Need-loop-less (carve-E t) (carve-at t) carve.Post carve-Inv-loop carve-μ-loop
 carve-loop-less t c =
-    let loop = c .before .before .before .before .before .before .before .before .before .before .before .before .loop in
-    let next-part = c .before .before .before .before .before .before .before .before .before .before .before .next-part in
-    let if4 = c .before .before .before .before .before .before .before .before .before .if4 in
+    let loop = c .before .before .before .before .before .before .before .before .before .before .before .before .before .loop in
+    let next-part = c .before .before .before .before .before .before .before .before .before .before .before .before .next-part in
+    let if4 = c .before .before .before .before .before .before .before .before .before .before .if4 in
     fewer-parts (loop .inv) (next-part .ensures) (not-false _ (if4 .left))
 
 carve-loop-again : (t : ℕ) → carve-lts.Need-loop-again (carve-E t) (carve-at t) carve.Post carve-Inv-loop carve-μ-loop
 carve-loop-again t c =
-    let loop = c .before .before .before .before .before .before .before .before .before .before .before .before .loop in
-    let next-part = c .before .before .before .before .before .before .before .before .before .before .before .next-part in
-    let if4 = c .before .before .before .before .before .before .before .before .before .if4 in
-    let carved = c .before .before .before .before .carve2 in
-    part-through (loop .inv) (next-part .ensures) (not-false _ (if4 .left)) (carved .ensures .0) (c .before .if5 .left) (carved .ensures .1) (carved .kept .1 .1 .1 .0)
+    let loop = c .before .before .before .before .before .before .before .before .before .before .before .before .before .loop in
+    let next-part = c .before .before .before .before .before .before .before .before .before .before .before .before .next-part in
+    let if4 = c .before .before .before .before .before .before .before .before .before .before .if4 in
+    let carved = c .before .before .before .before .carve3 in
+    part-through (loop .inv) (next-part .ensures) (not-false _ (if4 .left)) (carved .ensures .0) (c .before .if6 .left) (carved .ensures .1) (carved .kept .1 .1 .1 .0)
 
 abbrev stop-Inv-loop : stop-lts.InvT-loop
 stop-Inv-loop file ask index area₀ place t d path₀ counters₀ base e₀ area path counters e =
@@ -525,6 +560,9 @@ pub +carve+stop-spec : {M : Type 1} → statement M
     (carve-carve-requires-2 t)
     (carve-same-length-4 t)
     (carve-returns-5 t)
+    (carve-carve-requires-3 t)
+    (carve-same-length-5 t)
+    (carve-returns-6 t)
     (carve-loop-less t)
     (carve-loop-again t))
     λ t. stop-lts.spec (stop-E t) (stop-at t)
