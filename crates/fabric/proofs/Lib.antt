@@ -4,6 +4,7 @@ pub mod Hops
 pub mod Asking
 pub mod Passing
 pub mod MoreAsked
+pub mod Calls
 pub mod Judging
 pub mod Listing
 pub mod Demands

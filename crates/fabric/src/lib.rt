@@ -24,6 +24,15 @@ ghost use Rattle.fabric.specs.Questions.{query, limitRight, caresForAll}
 ghost use Rattle.fabric.specs.Run.{runAnswer, runCall};
 ghost use Rattle.fabric.specs.Verdict.{verdictWords, verdictAnswer, verdictCall};
 ghost use Rattle.fabric.specs.List.{listAnswer, listCall};
+ghost use Rattle.fabric.specs.Calls.{answerOf, callOf};
+
+// The bytes of a verdict's or a run's answer, and what is returned with its 24 words.
+const ANSWER: usize = 96;
+
+const ANSWERED: u64 = 24 * 256;
+
+// Question 13, which is asked while the units are made.
+const BUDGET_USED: u64 = 13;
 
 // ---- questions in turn
 
@@ -81,7 +90,7 @@ fn run_accepted(
     let tidy = asked.is_tidy();
     let all = cares_for_all(asked);
     let edge = is_edge(file, shape, edge_of, start);
-    let room = 96 <= area.len();
+    let room = ANSWER <= area.len();
     let no = ask(
         9,
         limit_right(limit),
@@ -93,37 +102,7 @@ fn run_accepted(
     let header = asked.value;
     let j = journey::travel(file, shape, starts, start, limit as usize, header);
     journey::put(area, j);
-    24 * 256
-}
-
-// The call run.
-pub fn run(
-    file: &[u8],
-    area: &mut [u8],
-    start: u32,
-    limit: u32,
-    budget: u32,
-    asked: HeaderSet,
-) -> u64
-    ensures { λ r. ⌜ outcome r (now (area .exit)) ≡ runCall (now (file .entry)) (query start limit budget (setOf asked)) (now (area .entry)) ⌝ }
-{
-    let mut edge_of = [0u16; 4096];
-    let mut starts = [0u16; 4096];
-    let mut ends = [0u16; 4096];
-    match file::accept(file, &mut edge_of, &mut starts, &mut ends) {
-        Read::No(number, place) => (place as u64) * 256 + (number as u64),
-        Read::Fabric(shape) => run_accepted(
-            file,
-            area,
-            shape,
-            &edge_of,
-            &starts,
-            start,
-            limit,
-            budget,
-            asked,
-        ),
-    }
+    ANSWERED
 }
 
 // ---- the verdict
@@ -157,7 +136,7 @@ fn verdict_accepted(
 {
     let edge = is_edge(file, shape, edge_of, target);
     let tidy = asked.is_tidy();
-    let room = 96 <= area.len();
+    let room = ANSWER <= area.len();
     let no = ask(
         8,
         edge,
@@ -180,43 +159,13 @@ fn verdict_accepted(
         asked,
     );
     if p.status == 1 {
-        return 13;
+        return BUDGET_USED;
     }
     if p.status == 2 {
-        return 24 * 256;
+        return ANSWERED;
     }
     put_isolated(area, p.made as u32);
-    24 * 256
-}
-
-// The call verdict.
-pub fn verdict(
-    file: &[u8],
-    area: &mut [u8],
-    target: u32,
-    limit: u32,
-    budget: u32,
-    asked: HeaderSet,
-) -> u64
-    ensures { λ r. ⌜ outcome r (now (area .exit)) ≡ verdictCall (now (file .entry)) (query target limit budget (setOf asked)) (now (area .entry)) ⌝ }
-{
-    let mut edge_of = [0u16; 4096];
-    let mut starts = [0u16; 4096];
-    let mut ends = [0u16; 4096];
-    match file::accept(file, &mut edge_of, &mut starts, &mut ends) {
-        Read::No(number, place) => (place as u64) * 256 + (number as u64),
-        Read::Fabric(shape) => verdict_accepted(
-            file,
-            area,
-            shape,
-            &edge_of,
-            &ends,
-            target,
-            limit,
-            budget,
-            asked,
-        ),
-    }
+    ANSWERED
 }
 
 // ---- the list
@@ -258,7 +207,7 @@ fn list_accepted(
         asked,
     );
     if counted.status != 0 {
-        return 13;
+        return BUDGET_USED;
     }
     let room = (area.len() / 4) as u64;
     if room < counted.words {
@@ -279,6 +228,109 @@ fn list_accepted(
     counted.words * 256
 }
 
+// ---- the calls
+
+// Document 01's calls.
+enum Call {
+    Verdict,
+    List,
+    Run,
+}
+
+// A call on an accepted file.
+fn answer_accepted(
+    call: Call,
+    file: &[u8],
+    area: &mut [u8],
+    shape: Shape,
+    edge_of: &[u16; 4096],
+    starts: &[u16; 4096],
+    ends: &[u16; 4096],
+    port: u32,
+    limit: u32,
+    budget: u32,
+    asked: HeaderSet,
+) -> u64
+    requires { ⌜ Accepted (now file) shape ⌝ }
+    requires { ⌜ Numbers (recent (portOfEdge (now file)) (shape .edges)) (now «edge_of») ⌝ }
+    requires { ⌜ Numbers (recent (fromOfLink (now file) (shape .edges)) (shape .links)) (now starts) ⌝ }
+    requires { ⌜ Numbers (recent (toOfLink (now file) (shape .edges)) (shape .links)) (now ends) ⌝ }
+    ensures { λ r. ⌜ outcome r (now (area .exit)) ≡ answerOf call (now (file .entry)) (query port limit budget (setOf asked)) (Fabric shape) (now (area .entry)) ⌝ }
+{
+    match call {
+        Call::Verdict => verdict_accepted(
+            file,
+            area,
+            shape,
+            edge_of,
+            ends,
+            port,
+            limit,
+            budget,
+            asked,
+        ),
+        Call::List => list_accepted(file, area, shape, edge_of, ends, port, limit, budget, asked),
+        Call::Run => run_accepted(
+            file,
+            area,
+            shape,
+            edge_of,
+            starts,
+            port,
+            limit,
+            budget,
+            asked,
+        ),
+    }
+}
+
+// A call: questions 1 to 7, then its own.
+fn answer(
+    call: Call,
+    file: &[u8],
+    area: &mut [u8],
+    port: u32,
+    limit: u32,
+    budget: u32,
+    asked: HeaderSet,
+) -> u64
+    ensures { λ r. ⌜ outcome r (now (area .exit)) ≡ callOf call (now (file .entry)) (query port limit budget (setOf asked)) (now (area .entry)) ⌝ }
+{
+    let mut edge_of = [0u16; 4096];
+    let mut starts = [0u16; 4096];
+    let mut ends = [0u16; 4096];
+    match file::accept(file, &mut edge_of, &mut starts, &mut ends) {
+        Read::No(number, place) => (place as u64) * 256 + (number as u64),
+        Read::Fabric(shape) => answer_accepted(
+            call,
+            file,
+            area,
+            shape,
+            &edge_of,
+            &starts,
+            &ends,
+            port,
+            limit,
+            budget,
+            asked,
+        ),
+    }
+}
+
+// The call verdict.
+pub fn verdict(
+    file: &[u8],
+    area: &mut [u8],
+    target: u32,
+    limit: u32,
+    budget: u32,
+    asked: HeaderSet,
+) -> u64
+    ensures { λ r. ⌜ outcome r (now (area .exit)) ≡ verdictCall (now (file .entry)) (query target limit budget (setOf asked)) (now (area .entry)) ⌝ }
+{
+    answer(Call::Verdict, file, area, target, limit, budget, asked)
+}
+
 // The call list.
 pub fn list(
     file: &[u8],
@@ -290,23 +342,21 @@ pub fn list(
 ) -> u64
     ensures { λ r. ⌜ outcome r (now (area .exit)) ≡ listCall (now (file .entry)) (query target limit budget (setOf asked)) (now (area .entry)) ⌝ }
 {
-    let mut edge_of = [0u16; 4096];
-    let mut starts = [0u16; 4096];
-    let mut ends = [0u16; 4096];
-    match file::accept(file, &mut edge_of, &mut starts, &mut ends) {
-        Read::No(number, place) => (place as u64) * 256 + (number as u64),
-        Read::Fabric(shape) => list_accepted(
-            file,
-            area,
-            shape,
-            &edge_of,
-            &ends,
-            target,
-            limit,
-            budget,
-            asked,
-        ),
-    }
+    answer(Call::List, file, area, target, limit, budget, asked)
+}
+
+// The call run.
+pub fn run(
+    file: &[u8],
+    area: &mut [u8],
+    start: u32,
+    limit: u32,
+    budget: u32,
+    asked: HeaderSet,
+) -> u64
+    ensures { λ r. ⌜ outcome r (now (area .exit)) ≡ runCall (now (file .entry)) (query start limit budget (setOf asked)) (now (area .entry)) ⌝ }
+{
+    answer(Call::Run, file, area, start, limit, budget, asked)
 }
 
 // ---- what the host links

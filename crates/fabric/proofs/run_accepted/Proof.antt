@@ -88,9 +88,6 @@ put-requires c κs =
       few-hops-then (fabricIn (now (s .args .file))) (s .args .limit) (s .args .start) (s .args .asked .value) (c .before .travel .result) (c .before .travel .ensures) (low-limit (c .before .before .before)),
     )
 
-mul-result : tie.Need-mul-result
-mul-result c = search needs
-
 same-length : tie.Need-same-length
 same-length c = search needs
 
@@ -118,6 +115,5 @@ run-accepted-spec =
     returns
     travel-requires
     put-requires
-    mul-result
     same-length
     returns-2)

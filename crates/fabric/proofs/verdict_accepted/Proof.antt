@@ -106,9 +106,6 @@ returns-2 c =
     ap (λ (x : Played). outcome 13 (x .world .area)) p
     ∙ answered-13 (f s) (q s) (a s) (none (c .before .before .before .before .before .before .before .before)) (sym (ap (λ (x : Played). x .status) p) ∙ c .if2 .taken)
 
-mul-result : tie.Need-mul-result
-mul-result c = search needs
-
 same-length-2 : tie.Need-same-length-2
 same-length-2 c = search needs
 
@@ -136,9 +133,6 @@ put-isolated-requires c κs =
     let status = ap (λ (x : Played). x .status) p in
     let same = ap (λ (x : Played). length (x .world .area)) p ∙ ap length (verdict-isolated (f s) (q s) (a s) (λ e. c .before .before .before .before .if2 .left (status ∙ e)) (λ e. c .before .before .if3 .left (status ∙ e)) .1) in
     omega (arith, same, room (c .before .before .before .before .before .before .before .before .before .before .before .before))
-
-mul-result-2 : tie.Need-mul-result-2
-mul-result-2 c = search needs
 
 same-length-3 : tie.Need-same-length-3
 same-length-3 c = search needs
@@ -169,11 +163,9 @@ verdict-accepted-spec =
     pass-requires
     same-length
     returns-2
-    mul-result
     same-length-2
     returns-3
     cast-put-isolated
     put-isolated-requires
-    mul-result-2
     same-length-3
     returns-4)

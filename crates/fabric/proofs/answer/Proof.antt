@@ -1,4 +1,4 @@
--- `list` meets its contract: a refused file is answered with its number and place, and an accepted one by `list_accepted`. Assumes nothing.
+-- `answer` meets its contract: a refused file is answered with its number and place, and an accepted one by `answer_accepted`. Assumes nothing.
 use mathlib.Core.Path.{sym, ap, _∙_, subst}
 use borrow.Author.Needs.{needs}
 use denote.Ref.{now}
@@ -9,13 +9,15 @@ use Rattle.file.specs.Tables.{Indexed, Tabled}
 use Rattle.file.specs.declared.Read.{Read}
 use Rattle.file.proofs.Tables.{empty}
 use Rattle.fabric.specs.Questions.{Query, query}
-use Rattle.fabric.specs.List.{listAnswer, listCall}
-use Rattle.fabric.proofs.list.Statement.{statement}
-use Rattle.fabric.proofs.list.Tie as tie
+use Rattle.fabric.specs.Calls.{answerOf, callOf}
+use Rattle.fabric.specs.declared.Call.{Call}
+use Rattle.fabric.proofs.Calls.{call-answers, call-refused}
+use Rattle.fabric.proofs.answer.Statement.{statement}
+use Rattle.fabric.proofs.answer.Tie as tie
 
 -- the query as the call has it
 asked : tie.Start → Query
-asked s = query (s .args .target) (s .args .limit) (s .args .budget) (setOf (s .args .asked))
+asked s = query (s .args .port) (s .args .limit) (s .args .budget) (setOf (s .args .asked))
 
 -- the file is accepted with the shape found
 is-accepted : (c : tie.After-shape) → Accepted (now (c .before .before .before .before .before .before .before .before .args .file)) (c .shape .given .0 .0)
@@ -48,28 +50,33 @@ add-result c = search needs
 enum-known-shape : tie.Need-enum-known-shape
 enum-known-shape c = search needs
 
-list-accepted-requires : tie.Need-list-accepted-requires
-list-accepted-requires c κs = (is-accepted (c .before .before .before .before), (tables (c .before .before .before .before) .edge-at, tables (c .before .before .before .before) .end-at))
+answer-accepted-requires : tie.Need-answer-accepted-requires
+answer-accepted-requires c κs =
+    let found = c .before .before .before .before .before in
+    (is-accepted found, (tables found .edge-at, (tables found .start-at, tables found .end-at)))
 
 returns : tie.Need-returns
-unfolding listCall refused asked
+unfolding refused asked
 returns c =
     let s = c .before .before .before .before .before .before .before .before .before in
-    ap (λ (r : Read). listAnswer (now (s .args .file)) (asked s) r (now (s .args .area)))
+    call-refused (s .args .call) (now (s .args .file)) (asked s) (now (s .args .area)) _ _
+    ∙ ap (λ (r : Read). answerOf (s .args .call) (now (s .args .file)) (asked s) r (now (s .args .area)))
     (sym (c .before .number .given .1) ∙ c .before .before .before .accept .ensures .0)
+    ∙ call-answers (s .args .call) (now (s .args .file)) (asked s) (now (s .args .area))
 
 same-length : tie.Need-same-length
 same-length c = search needs
 
 returns-2 : tie.Need-returns-2
-unfolding listCall refused asked
+unfolding asked
 returns-2 c =
-    let s = c .before .before .before .before .before .before .before .before .before .before .before .before .before .before .before in
-    c .before .before .list-accepted .ensures
-    ∙ ap (λ (r : Read). listAnswer (now (s .args .file)) (asked s) r (now (s .args .area))) (sym (is-accepted (c .before .before .before .before .before .before .before)))
+    let s = c .before .before .before .before .before .before .before .before .before .before .before .before .before .before .before .before in
+    c .before .before .answer-accepted .ensures
+    ∙ ap (λ (r : Read). answerOf (s .args .call) (now (s .args .file)) (asked s) r (now (s .args .area))) (sym (is-accepted (c .before .before .before .before .before .before .before .before)))
+    ∙ call-answers (s .args .call) (now (s .args .file)) (asked s) (now (s .args .area))
 
-pub list-spec : {M : Type 1} → statement M
-list-spec =
+pub answer-spec : {M : Type 1} → statement M
+answer-spec =
     tie.close
     (tie.spec
     accept-requires
@@ -79,7 +86,7 @@ list-spec =
     cast-result-2
     add-result
     enum-known-shape
-    list-accepted-requires
+    answer-accepted-requires
     returns
     same-length
     returns-2)
