@@ -42,7 +42,7 @@ fn wide(v: u16) -> usize
 }
 
 // Where a part at this in-port comes from.
-pub fn place_at(index: &[u16; 13312], port: usize) -> usize
+fn place_at(index: &[u16; 13312], port: usize) -> usize
     requires { ⌜ port < 4096 ⌝ }
     ensures { λ r. ⌜ r ≡ getD (now (index .entry)) port 0 ⌝ }
 {
