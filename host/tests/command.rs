@@ -5,7 +5,7 @@ mod command;
 
 use std::fs;
 
-use command::{folder, mwishovala, ran, with_f, F};
+use command::{folder, mwishovala, ran, with_f, COMMANDS, F};
 use reference::file::write;
 use reference::random::deep_ring;
 
@@ -138,22 +138,9 @@ fn refusals_are_told() {
 #[test]
 fn the_help_has_every_command_and_option() {
     let help = ran(&folder("help"), "--help");
-    for word in [
-        "verdict",
-        "list",
-        "run",
-        "audit",
-        "show",
-        "pack",
-        "dot",
-        "--asked",
-        "--hops",
-        "--budget",
-        "--jobs",
-        "--json",
-        "--help",
-        "Exit status",
-    ] {
+    let options = "--asked --hops --budget --jobs --json --help".split(' ');
+    let words = COMMANDS.into_iter().chain(options);
+    for word in words.chain(["Exit status"]) {
         assert!(help.text().contains(word), "{word}");
     }
 }

@@ -7,7 +7,7 @@ mod json;
 
 use std::fs;
 
-use command::{folder, mwishovala, ran, with_f, F};
+use command::{folder, mwishovala, ran, with_f, COMMANDS, F};
 use json::is_json;
 use reference::file::write;
 use reference::random::{any, cases, damage, Rng};
@@ -70,14 +70,7 @@ fn damaged_files() {
 #[test]
 fn arguments_at_random() {
     let folder = with_f("arguments");
-    const WORDS: [&str; 22] = [
-        "verdict",
-        "list",
-        "run",
-        "audit",
-        "show",
-        "pack",
-        "dot",
+    let others = [
         "f.fabric",
         "f.txt",
         "2",
@@ -94,9 +87,12 @@ fn arguments_at_random() {
         "é",
         "",
     ];
+    let words = [&COMMANDS[..], &others].concat();
     cases(9_300_000, 300, |rng: &mut Rng| {
         let number = rng.between(0, 6);
-        let mut arguments: Vec<&str> = (0..number).map(|_| rng.one_of(WORDS)).collect();
+        let mut arguments: Vec<&str> = (0..number)
+            .filter_map(|_| rng.pick(&words).copied())
+            .collect();
         if rng.once_in(2) {
             arguments.insert(0, rng.one_of(["verdict", "list", "run", "audit", "dot"]));
         }

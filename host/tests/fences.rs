@@ -6,8 +6,8 @@ mod common;
 use std::cell::RefCell;
 
 use common::fence::{Fenced, Side};
-use common::{reference_alone, Call, RUN};
-use common::{LIST, VERDICT};
+use common::{reference_alone, Call, LIST, RUN, VERDICT};
+use reference::examples::{fabric_f, run_query, wild_query};
 use reference::file::write;
 use reference::random::{any, cases, damage, largest, packet, query, Rng};
 use reference::Query;
@@ -98,12 +98,12 @@ fn any_query(rng: &mut Rng) -> Query {
 #[test]
 fn areas_of_every_length() {
     let places = places();
-    let file = common::fabrics::fabric_f();
+    let file = fabric_f();
     for lent in 0..200 {
         for call in calls() {
             let asked = match call.number {
-                3 => common::fabrics::run_query(1, 16, [0; 4]),
-                _ => common::fabrics::wild_query(2, 16, 9),
+                3 => run_query(1, 16, [0; 4]),
+                _ => wild_query(2, 16, 9),
             };
             check(call, &mut places.borrow_mut(), &file, lent, &asked);
         }

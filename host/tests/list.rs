@@ -4,14 +4,13 @@ mod common;
 
 use std::cell::Cell;
 
-use common::fabrics::{edge, entry, fabric, fabric_f, linked, many_finds, wild_query};
-use common::{agreed, reference_alone, to_host, LIST};
-use mwishovala::raw;
-use reference::file::write;
-use reference::random::{
-    any, campus, cases, damage, deep_ring, inflict, query, twenty_denies, Damage, Rng,
+use common::{agreed, checks, reference_alone, LIST};
+use reference::examples::{
+    edge, entry, fabric, fabric_f, many_finds, to_tp_dst, tp_dst, wild_query,
 };
-use reference::{Entry, Query, Rewrite, Set};
+use reference::file::write;
+use reference::random::{any, campus, cases, deep_ring, query, twenty_denies, Rng};
+use reference::{Entry, Query, Set};
 
 /// Room for any list of these tests.
 const ROOM: usize = 1 << 20;
@@ -56,50 +55,25 @@ fn random_fabrics() {
 
 #[test]
 fn damaged_files() {
-    for (number, how) in (0..).zip(Damage::ALL) {
-        cases(4_100_000 + 1000 * number, 40, |rng| {
-            let fabric = any(rng);
-            let mut file = inflict(how, &write(&fabric), rng).bytes;
-            if rng.once_in(3) {
-                file = damage(&file, rng);
-            }
-            let asked = query(rng, &fabric, 2000);
-            let _ = agreed(LIST, &file, rng.below(2000), &asked);
-        });
-    }
+    checks::damaged_files(LIST, 4_100_000, |rng| rng.below(2000));
 }
 
 /// The list's count is the whole trace's, whatever the verdict's is.
 #[test]
 fn budgets_around_the_count() {
-    let counted = Cell::new(0);
-    cases(4_200_000, 3000, |rng| {
-        let fabric = any(rng);
-        let file = write(&fabric);
-        let asked = Query {
-            budget: 20_000,
-            ..query(rng, &fabric, 1)
-        };
-        if needed(&file, &asked, ROOM).is_none() {
-            return;
-        }
-        let Some(count) = least_budget(&file, &asked) else {
-            return;
-        };
-        for budget in [0, count.saturating_sub(1), count, count + 1, u32::MAX] {
-            let answer = agreed(LIST, &file, ROOM / 16, &Query { budget, ..asked });
-            let is_spent = answer == Err((13, 0));
-            assert_eq!(is_spent, budget < count, "a budget of {budget}");
-        }
-        counted.set(counted.get() + u32::from(count > 0));
-    });
-    assert!(counted.get() == 1 || counted.get() > 1500);
+    let is_enough = |file: &_, asked: &_| agreed(LIST, file, ROOM / 16, asked) != Err((13, 0));
+    let seeds = (4_200_000, 3000);
+    let counted = checks::budgets_around_the_count(seeds, 20_000, least_budget, is_enough);
+    assert!(counted == 1 || counted > 1500);
 }
 
 /// The least budget that the reference's list is answered with, up to the
 /// query's.
 fn least_budget(file: &[u8], asked: &Query) -> Option<u32> {
     let does = |budget| needed(file, &Query { budget, ..*asked }, ROOM).is_some();
+    if !does(asked.budget) {
+        return None;
+    }
     let (mut low, mut high) = (0, asked.budget);
     while low < high {
         let middle = low + (high - low) / 2;
@@ -108,7 +82,7 @@ fn least_budget(file: &[u8], asked: &Query) -> Option<u32> {
             false => low = middle + 1,
         }
     }
-    does(low).then_some(low)
+    Some(low)
 }
 
 #[test]
@@ -140,31 +114,15 @@ fn lists_around_65_536_bytes() {
     }
 }
 
-/// The deepest descent, 16 hops of 63 beaters, on a thread with little stack.
 #[test]
 fn half_a_mebibyte_of_stack_is_enough() {
-    let ring = deep_ring();
-    let file = write(&ring.fabric);
-    let asked = to_host(&ring.query);
-    let mut area = vec![0; ROOM];
-    let call = move || raw::list(&file, &mut area, &asked);
-    let thread = std::thread::Builder::new().stack_size(512 << 10);
-    let code = thread.spawn(call).unwrap().join().unwrap();
-    assert_eq!(code % 256, 0);
+    assert_eq!(checks::with_little_stack(LIST, ROOM) % 256, 0);
 }
 
 #[test]
 fn calls_at_the_same_time() {
-    std::thread::scope(|scope| {
-        for thread in 0..4 {
-            scope.spawn(move || {
-                cases(4_400_000 + 1000 * thread, 400, |rng| {
-                    let fabric = any(rng);
-                    let file = write(&fabric);
-                    let _ = agreed(LIST, &file, 4000, &query(rng, &fabric, 20_000));
-                });
-            });
-        }
+    checks::calls_at_the_same_time(LIST, (4_400_000, 400), 4000, |rng, fabric| {
+        query(rng, fabric, 20_000)
     });
 }
 
@@ -177,62 +135,32 @@ fn an_empty_list_needs_no_room() {
     );
 }
 
-/// Every bit flipped, of F and of a fabric with links.
 #[test]
 fn every_bit_matters_alike() {
-    for whole in [fabric_f(), write(&linked())] {
-        for bit in 0..8 * whole.len() {
-            let mut file = whole.clone();
-            file[bit / 8] ^= 1 << (bit % 8);
-            let _ = agreed(LIST, &file, 2000, &wild_query(2, 16, 9));
-        }
-    }
+    checks::every_bit_matters_alike(LIST, 2000, &wild_query(2, 16, 9));
 }
 
-/// Numbers whose low bits would do.
 #[test]
 fn numbers_out_of_range() {
-    for port in [0, 3, 2 + 4096, 2 + 65_536, 1 << 31, u32::MAX] {
-        let answer = agreed(LIST, &fabric_f(), 96, &wild_query(port, 16, 2));
-        assert_eq!(answer, Err((8, 0)));
-    }
-    for limit in [0, 17, 256 + 1, 65_536 + 1, 1 << 31, u32::MAX] {
-        let answer = agreed(LIST, &fabric_f(), 96, &wild_query(2, limit, 2));
-        assert_eq!(answer, Err((9, 0)));
-    }
-    for bit in 0..128 {
-        let mut asked = wild_query(2, 16, 2);
-        asked.care[bit / 32] = !(1 << (bit % 32));
-        asked.value[bit / 32] = 1 << (bit % 32);
-        let answer = agreed(LIST, &fabric_f(), 96, &asked);
-        assert_eq!(answer, Err((10, 0)));
-    }
+    checks::numbers_out_of_range(LIST, wild_query(2, 16, 2), 8);
+    checks::values_outside_the_care(LIST, wild_query(2, 16, 2));
 }
 
-/// Of the questions that get a no, the one asked first answers: 13 before 12.
+/// 13 before 12.
 #[test]
 fn questions_8_to_13_in_turn() {
-    let order = [8, 9, 10, 13, 12];
-    for noes in 0..1 << order.len() {
-        let no = |question: u8| (0..5).any(|i| order[i] == question && noes >> i & 1 == 1);
-        let mut asked = wild_query(2, 16, 2);
-        if no(8) {
-            asked.port = 3;
-        }
-        if no(9) {
-            asked.limit = 0;
-        }
-        if no(10) {
-            asked.value[3] = 0x8000_0000;
-        }
-        if no(13) {
-            asked.budget = 1;
-        }
-        let lent = if no(12) { 79 } else { 80 };
-        let answer = agreed(LIST, &fabric_f(), lent, &asked);
-        let first = order.into_iter().find(|&question| no(question));
-        assert_eq!(answer.err(), first.map(|question| (question, 0)));
-    }
+    checks::questions_in_turn(
+        LIST,
+        wild_query(2, 16, 2),
+        80,
+        &[
+            (8, |asked, _| asked.port = 3),
+            (9, |asked, _| asked.limit = 0),
+            (10, |asked, _| asked.value[3] = 0x8000_0000),
+            (13, |asked, _| asked.budget = 1),
+            (12, |_, lent| *lent = 79),
+        ],
+    );
 }
 
 /// E2, E4 and E6 of document 01.
@@ -252,17 +180,10 @@ fn checked_examples() {
 /// E8 to E10: what is undone of one entry that rewrites tp_dst to 5.
 #[test]
 fn undoing_a_rewrite() {
-    let tp_dst = |port: u128| Set {
-        care: 0xffff << 32,
-        value: port << 32,
-    };
     let list = |matching: Set, exit: [u32; 2]| {
         let only = Entry {
             matching,
-            rewrite: Rewrite {
-                mask: tp_dst(5).care,
-                value: tp_dst(5).value,
-            },
+            rewrite: to_tp_dst(5),
             ..entry(1, 1, 2)
         };
         let file = write(&fabric(&[edge(1, 1), edge(2, 2)], &[], &[only]));

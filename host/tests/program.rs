@@ -2,8 +2,8 @@
 
 mod common;
 
-use common::fabrics::{fabric_f, run_query, wild_query};
 use common::program::{printed, printed_in_pieces};
+use reference::examples::{fabric_f, run_query, wild_query};
 use reference::file::write;
 use reference::query::{input, print, RUN, VERDICT};
 use reference::random::{any, cases, damage, packet, query};
@@ -76,7 +76,7 @@ fn inputs_that_come_in_pieces() {
 
 mod trace {
     use super::*;
-    use common::fabrics::many_finds;
+    use reference::examples::many_finds;
     use reference::query::LIST;
 
     /// E2 of document 01, as it is printed there.

@@ -2,8 +2,8 @@
 
 mod common;
 
-use common::fabrics::{edge, entry, fabric, fabric_f, link};
 use mwishovala::{accept, run, Header, Question, Refusal};
+use reference::examples::{edge, entry, fabric, fabric_f, file_of, link, record};
 use reference::file::{to_le_bytes, write};
 use reference::Set;
 
@@ -12,16 +12,7 @@ fn said(file: &[u8]) -> String {
 }
 
 fn said_of(records: &[u32]) -> String {
-    let mut words = vec![0x10010000 + records.len() as u32 + 1];
-    words.extend(records);
-    said(&to_le_bytes(&words))
-}
-
-/// An edge or entry record with 0 in its further words.
-fn record(first: u32) -> Vec<u32> {
-    let mut record = vec![first];
-    record.resize(if first >> 28 == 2 { 9 } else { 18 }, 0);
-    record
+    said(&file_of(records))
 }
 
 #[test]
@@ -163,9 +154,9 @@ fn a_refusal_is_an_error() {
 
 mod trace {
     use super::*;
-    use common::fabrics::wild_query;
     use common::to_host;
     use mwishovala::{list, list_growing, verdict, Query};
+    use reference::examples::wild_query;
 
     #[test]
     fn questions_8_to_13_in_words() {

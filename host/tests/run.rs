@@ -4,11 +4,14 @@ mod common;
 
 use std::cell::Cell;
 
-use common::fabrics::{fabric_f, linked, run_query};
-use common::{agreed, RUN};
+use common::{agreed, checks, RUN};
 use reference::brute;
+use reference::examples::{fabric_f, run_query};
 use reference::file::{read, to_le_bytes, write};
 use reference::random::{any, cases, damage, inflict, largest, packet, Damage, Rng};
+
+/// What F sends on to port 2.
+const HEADER: [u32; 4] = [0, 0x0a00_0002, 2, 0];
 
 /// Mostly room for the answer, also none.
 fn some_length(rng: &mut Rng) -> usize {
@@ -110,14 +113,8 @@ fn files_of_random_words() {
 
 #[test]
 fn every_length_of_file_and_area() {
-    let query = run_query(1, 16, [0, 0x0a00_0002, 2, 0]);
-    for length in 0..=fabric_f().len() {
-        let _ = agreed(RUN, &fabric_f()[..length], 96, &query);
-    }
-    for lent in 0..200 {
-        let answer = agreed(RUN, &fabric_f(), lent, &query);
-        assert_eq!(answer.is_ok(), lent >= 96);
-    }
+    let query = run_query(1, 16, HEADER);
+    checks::every_length_of_file_and_area(RUN, &query);
     let most = write(&largest(&mut Rng::new(7)));
     for length in 40_100..40_300 {
         let mut file = most.clone();
@@ -128,52 +125,29 @@ fn every_length_of_file_and_area() {
     }
 }
 
-/// Every bit flipped, of F and of a fabric with links.
 #[test]
 fn every_bit_matters_alike() {
-    for whole in [fabric_f(), write(&linked())] {
-        for bit in 0..8 * whole.len() {
-            let mut file = whole.clone();
-            file[bit / 8] ^= 1 << (bit % 8);
-            let _ = agreed(RUN, &file, 96, &run_query(1, 16, [0, 0x0a00_0002, 2, 0]));
-        }
-    }
+    checks::every_bit_matters_alike(RUN, 96, &run_query(1, 16, HEADER));
 }
 
-/// Of the questions that get a no, the one asked first answers.
 #[test]
 fn questions_9_to_12_in_turn() {
-    for noes in 0..16 {
-        let no = |place: u32| noes >> place & 1 == 1;
-        let mut query = run_query(1, 16, [0; 4]);
-        if no(0) {
-            query.limit = 0;
-        }
-        if no(1) {
-            query.care[2] = 0x7fff_ffff;
-        }
-        if no(2) {
-            query.port = 3;
-        }
-        let lent = if no(3) { 95 } else { 96 };
-        let answer = agreed(RUN, &fabric_f(), lent, &query);
-        let first = (0..4).find(|&place| no(place));
-        assert_eq!(answer.err(), first.map(|place| (9 + place as u8, 0)));
-    }
+    checks::questions_in_turn(
+        RUN,
+        run_query(1, 16, [0; 4]),
+        96,
+        &[
+            (9, |query, _| query.limit = 0),
+            (10, |query, _| query.care[2] = 0x7fff_ffff),
+            (11, |query, _| query.port = 3),
+            (12, |_, lent| *lent = 95),
+        ],
+    );
 }
 
-/// Numbers whose low bits would do.
 #[test]
 fn numbers_out_of_range() {
-    let header = [0, 0x0a00_0002, 2, 0];
-    for port in [0, 3, 1 + 4096, 1 + 65_536, 1 << 31, u32::MAX] {
-        let answer = agreed(RUN, &fabric_f(), 96, &run_query(port, 16, header));
-        assert_eq!(answer, Err((11, 0)));
-    }
-    for limit in [0, 17, 256 + 1, 65_536 + 1, 1 << 31, u32::MAX] {
-        let answer = agreed(RUN, &fabric_f(), 96, &run_query(1, limit, header));
-        assert_eq!(answer, Err((9, 0)));
-    }
+    checks::numbers_out_of_range(RUN, run_query(1, 16, HEADER), 11);
 }
 
 #[test]
@@ -202,18 +176,7 @@ fn checked_examples() {
     );
 }
 
-/// The library keeps nothing between calls: threads don't disturb each other.
 #[test]
 fn calls_at_the_same_time() {
-    std::thread::scope(|scope| {
-        for thread in 0..4 {
-            scope.spawn(move || {
-                cases(1_500_000 + 1000 * thread, 500, |rng| {
-                    let fabric = any(rng);
-                    let file = write(&fabric);
-                    let _ = agreed(RUN, &file, 96, &packet(rng, &fabric));
-                });
-            });
-        }
-    });
+    checks::calls_at_the_same_time(RUN, (1_500_000, 500), 96, packet);
 }

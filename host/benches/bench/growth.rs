@@ -7,8 +7,9 @@ use crate::plot::{svg, Panel, Point};
 use crate::timing::{in_words, race};
 use crate::to_host;
 use mwishovala::raw;
+use reference::examples::{edge, entry, fabric, link, wild_query};
 use reference::file::write;
-use reference::{Edge, Entry, Fabric, Link, Query, Rewrite, Set};
+use reference::{Entry, Fabric, Set};
 
 const START: u16 = 1;
 const TARGET: u16 = 2;
@@ -44,13 +45,7 @@ fn panel(name: &'static str, sizes: &[u16], make: fn(u16) -> Fabric) -> Panel {
     let mut points = Vec::new();
     for &size in sizes {
         let file = write(&make(size));
-        let query = Query {
-            port: u32::from(TARGET),
-            limit: 16,
-            budget: u32::MAX,
-            care: [0; 4],
-            value: [0; 4],
-        };
+        let query = wild_query(u32::from(TARGET), 16, u32::MAX);
         let asked = to_host(&query);
         let (mut lent, mut lent_too) = ([0; 96], [0; 96]);
         let times = race(
@@ -83,8 +78,10 @@ fn by_entries(number: u16) -> Fabric {
             care: 0xffff_ff00 << 64,
             value: (10 << 24 | u128::from(number) << 8) << 64,
         };
-        let in_port = 100 + number / 16;
-        fabric.entries.push(entry(1, in_port, TARGET, route));
+        fabric.entries.push(Entry {
+            matching: route,
+            ..entry(1, 100 + number / 16, TARGET)
+        });
     }
     fabric
 }
@@ -97,12 +94,9 @@ fn by_hops(number: u16) -> Fabric {
         let last = hop + 1 == number;
         let out_port = if last { TARGET } else { 200 + hop };
         fabric.entries.extend(denies(31, in_port));
-        fabric
-            .entries
-            .push(entry(1, in_port, out_port, Set::ALL_WILD));
+        fabric.entries.push(entry(1, in_port, out_port));
         if !last {
-            let (from, to) = (out_port, 100 + hop + 1);
-            fabric.links.push(Link { from, to });
+            fabric.links.push(link(out_port, 100 + hop + 1));
         }
     }
     fabric
@@ -112,7 +106,7 @@ fn by_hops(number: u16) -> Fabric {
 fn by_beaters(number: u16) -> Fabric {
     let mut fabric = two_edges();
     fabric.entries.extend(denies(number, START));
-    fabric.entries.push(entry(1, START, TARGET, Set::ALL_WILD));
+    fabric.entries.push(entry(1, START, TARGET));
     fabric
 }
 
@@ -123,29 +117,14 @@ fn denies(number: u16, in_port: u16) -> impl Iterator<Item = Entry> {
             care: one,
             value: one,
         };
-        entry(2, in_port, 0, matching)
+        Entry {
+            matching,
+            ..entry(2, in_port, 0)
+        }
     })
-}
-
-fn entry(priority: u16, in_port: u16, out_port: u16, matching: Set) -> Entry {
-    Entry {
-        priority,
-        in_port,
-        out_port,
-        matching,
-        rewrite: Rewrite::NONE,
-    }
 }
 
 /// One group, so that the verdict makes the whole trace.
 fn two_edges() -> Fabric {
-    let edges = [START, TARGET].map(|port| Edge {
-        group: 1,
-        port,
-        admitted: Set::ALL_WILD,
-    });
-    Fabric {
-        edges: edges.to_vec(),
-        ..Fabric::default()
-    }
+    fabric(&[edge(1, START), edge(1, TARGET)], &[], &[])
 }

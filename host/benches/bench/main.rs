@@ -4,13 +4,15 @@
 
 mod growth;
 mod plot;
+#[path = "../../tests/common/query.rs"]
+mod query;
 mod reading;
 mod running;
 mod stack;
 mod timing;
 mod tracing;
 
-use mwishovala::HeaderSet;
+use query::to_host;
 
 fn main() {
     println!("Time: the least of several rounds, product and reference in turn.");
@@ -20,17 +22,4 @@ fn main() {
     tracing::table();
     stack::table();
     growth::table_and_plot();
-}
-
-/// The host's form of the reference's query.
-fn to_host(query: &reference::Query) -> mwishovala::Query {
-    mwishovala::Query {
-        port: query.port,
-        hops: query.limit,
-        budget: query.budget,
-        asked: HeaderSet {
-            care: query.care,
-            value: query.value,
-        },
-    }
 }

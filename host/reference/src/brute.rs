@@ -1,10 +1,15 @@
 //! A naive check: every header over a few bits, at every edge port, forwarded
 //! one by one, against the words of a list, a verdict or a run. It takes only
 //! the plain records from the rest, and its own forwarding is the sentence of
-//! document 01 spelled out. Any implementation's words can be checked.
+//! document 01 spelled out. Any implementation's words can be checked, and
+//! `many` does so on many random fabrics.
 //!
 //! It is for fabrics and queries that care for and rewrite only these bits;
 //! on all others headers are then alike.
+
+mod many;
+
+pub use many::{Ask, Checked, Tally, BUDGET};
 
 use std::collections::{HashMap, HashSet};
 

@@ -70,6 +70,18 @@ fn hand_over(words: Result<Vec<u32>, Refusal>, area: &mut [u8]) -> u64 {
     }
 }
 
+/// The words written, or number and place of the no.
+pub type Answer = Result<Vec<u32>, (u8, u64)>;
+
+/// What a call has answered, by its code and the area.
+pub fn read_answer(code: u64, area: &[u8]) -> Answer {
+    let (number, place) = ((code % 256) as u8, code / 256);
+    match number {
+        0 => Ok(file::to_le_words(&area[..4 * place as usize])),
+        _ => Err((number, place)),
+    }
+}
+
 /// Questions 8, 9, 10 and 12, then the trace for 13.
 fn judge(fabric: &Fabric, lent: usize, query: &Query) -> Result<Vec<u32>, Refusal> {
     let (target, limit) = aim(fabric, query)?;
@@ -85,15 +97,7 @@ fn judge(fabric: &Fabric, lent: usize, query: &Query) -> Result<Vec<u32>, Refusa
             None => ControlFlow::Continue(()),
         }
     };
-    let index = Index::new(fabric);
-    match trace(
-        &index,
-        target.port,
-        limit,
-        query.asked(),
-        query.budget,
-        visit,
-    ) {
+    match trace_back(fabric, target, limit, query, visit) {
         Ended::Whole(units) => {
             let mut words = vec![0; ANSWER_WORDS];
             words[1] = units;
@@ -122,15 +126,7 @@ fn gather(fabric: &Fabric, lent: usize, query: &Query) -> Result<Vec<u32>, Refus
         }
         ControlFlow::Continue(())
     };
-    let index = Index::new(fabric);
-    let ended = trace(
-        &index,
-        target.port,
-        limit,
-        query.asked(),
-        query.budget,
-        visit,
-    );
+    let ended = trace_back(fabric, target, limit, query, visit);
     ask(13, 0, ended != Ended::Spent)?;
     ask(12, 0, needed <= room as u64)?;
     Ok(words)
@@ -156,6 +152,19 @@ fn aim<'f>(fabric: &'f Fabric, query: &Query) -> Result<(&'f Edge, usize), Refus
     let limit = limit(query)?;
     ask(10, 0, query.asked().is_proper())?;
     Ok((target, limit))
+}
+
+/// The trace of what the query asks for.
+fn trace_back(
+    fabric: &Fabric,
+    target: &Edge,
+    limit: usize,
+    query: &Query,
+    visit: impl FnMut(&Find) -> ControlFlow<()>,
+) -> Ended {
+    let index = Index::new(fabric);
+    let (asked, budget) = (query.asked(), query.budget);
+    trace(&index, target.port, limit, asked, budget, visit)
 }
 
 /// Question 9: "Is the hop limit 1 to 16?"

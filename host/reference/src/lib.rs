@@ -4,12 +4,14 @@
 //!
 //! The yardstick is `set`, `fabric`, `file`, `forward`, `index`, `trace`,
 //! `calls` and `query`, in this order. `brute` and `ternary` are two naive
-//! checks on it, and `random` makes fabrics, queries and damaged files.
+//! checks on it; `random` makes fabrics, queries and damaged files, and
+//! `examples` are made by hand.
 
 #![forbid(unsafe_code)]
 
 pub mod brute;
 pub mod calls;
+pub mod examples;
 pub mod fabric;
 pub mod file;
 pub mod forward;

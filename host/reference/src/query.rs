@@ -2,7 +2,7 @@
 
 use std::fmt::Write;
 
-use crate::calls::{list, run, verdict, Query};
+use crate::calls::{list, read_answer, run, verdict, Query};
 use crate::file::to_le_words;
 use crate::refusal::Refusal;
 
@@ -20,12 +20,12 @@ pub const RUN: u32 = 3;
 pub fn print(input: &[u8]) -> String {
     let mut area = vec![0; LENT_BYTES];
     let code = answer(input, &mut area);
-    let (place, number) = (code / 256, code % 256);
-    if number != 0 {
-        return format!("no {number} at {place}\n");
-    }
-    let mut text = format!("ok {place}\n");
-    for word in to_le_words(&area).iter().take(place as usize) {
+    let words = match read_answer(code, &area) {
+        Ok(words) => words,
+        Err((number, place)) => return format!("no {number} at {place}\n"),
+    };
+    let mut text = format!("ok {}\n", words.len());
+    for word in words {
         let _ = writeln!(text, "{word:08x}");
     }
     text

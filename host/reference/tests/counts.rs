@@ -5,7 +5,8 @@ mod common;
 
 use std::cell::Cell;
 
-use common::{answer, edge, entry, fabric, link, tp_dst, wild_query};
+use common::answer;
+use reference::examples::{edge, entry, fabric, link, tp_dst, wild_query};
 use reference::file::write;
 use reference::random::{any, campus, cases, deep_ring, query, Benchmark};
 use reference::ternary::{self, Event};

@@ -2,7 +2,8 @@
 
 mod common;
 
-use common::{answer, fabric_f, to_tp_dst, tp_dst, wild_query};
+use common::answer;
+use reference::examples::{fabric_f, to_tp_dst, tp_dst, wild_query};
 use reference::file::{read, to_le_bytes, write};
 use reference::query::{input, print, LIST};
 use reference::{list, verdict, Set};

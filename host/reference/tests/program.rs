@@ -1,12 +1,9 @@
 //! The program: from standard input to what it prints.
 
-mod common;
-
-use common::{edge, entry, fabric, fabric_f, link, run_query, wild_query};
+use reference::examples::{fabric_f, many_finds, run_query, wild_query};
 use reference::file::write;
 use reference::query::{input, print, LIST, RUN, VERDICT};
 use reference::random::{any, cases, damage, query};
-use reference::{Entry, Set};
 
 #[test]
 fn question_14_comes_before_all() {
@@ -72,32 +69,12 @@ fn an_empty_list_is_ok_0() {
     assert_eq!(printed, "ok 0\n");
 }
 
-/// An allow under a deny of as many bits: a find for each of them.
-fn finds(number: u32, in_port: u16, out_port: u16) -> [Entry; 2] {
-    let mut deny = entry(2, in_port, 0);
-    deny.matching = Set {
-        care: (1 << number) - 1,
-        value: 0,
-    };
-    [deny, entry(1, in_port, out_port)]
-}
-
 /// 65,536 bytes are room for 16,384 words: 1,634 finds of one hop, ten words
 /// each, and 4 of two hops, eleven words each.
 #[test]
 fn the_list_has_65_536_bytes() {
     let printed = |near: u32, far: u32| {
-        let mut edges = vec![edge(1, 1)];
-        let mut entries = vec![entry(1, 51, 1)];
-        for number in 0..14 {
-            let in_port = 100 + number;
-            let here = if number == 13 { near - 13 * 117 } else { 117 };
-            edges.push(edge(2, in_port));
-            entries.extend(finds(here, in_port, 1));
-        }
-        edges.push(edge(2, 200));
-        entries.extend(finds(far, 200, 50));
-        let file = write(&fabric(&edges, &[link(50, 51)], &entries));
+        let file = write(&many_finds(near, far));
         print(&input(LIST, &wild_query(1, 2, 31), &file))
     };
     let full = printed(1634, 4);

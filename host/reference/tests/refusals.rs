@@ -2,16 +2,17 @@
 
 mod common;
 
-use common::{answer, edge, entry, fabric, fabric_f, link, run_query, wild_query, Call};
+use common::{answer, Call};
+use reference::examples::{
+    edge, entry, fabric, fabric_f, file_of, link, record, run_query, wild_query,
+};
 use reference::file::{read, to_le_bytes, to_le_words, write};
 use reference::random::{any, cases, damage, inflict, Damage};
 use reference::{list, run, verdict, Fabric, Query, Refusal, Set};
 
 /// The refusal of a file of these words after a right start.
 fn refusal_of(records: &[u32]) -> Option<(u8, usize)> {
-    let mut words = vec![0x10010000 + records.len() as u32 + 1];
-    words.extend(records);
-    refusal_of_bytes(&to_le_bytes(&words))
+    refusal_of_bytes(&file_of(records))
 }
 
 fn refusal_of_bytes(bytes: &[u8]) -> Option<(u8, usize)> {
@@ -21,14 +22,6 @@ fn refusal_of_bytes(bytes: &[u8]) -> Option<(u8, usize)> {
 
 fn refusal_of_fabric(fabric: &Fabric) -> Option<(u8, usize)> {
     refusal_of_bytes(&write(fabric))
-}
-
-/// An edge or entry record with 0 in its further words.
-fn record(first: u32) -> Vec<u32> {
-    let mut record = vec![first];
-    let length = if first >> 28 == 2 { 9 } else { 18 };
-    record.resize(length, 0);
-    record
 }
 
 const END: u32 = 0x50000000;

@@ -2,7 +2,8 @@
 
 mod common;
 
-use common::{answer, edge, entry, fabric, link, run_query, to_tp_dst, tp_dst};
+use common::answer;
+use reference::examples::{edge, entry, fabric, link, run_query, to_tp_dst, tp_dst};
 use reference::file::write;
 use reference::random::{any, cases, packet};
 use reference::{brute, run, Fabric, Set};

@@ -53,6 +53,9 @@ pub fn mwishovala(folder: &Path, arguments: &[&str], input: &[u8]) -> Ran {
     }
 }
 
+/// What it can be asked to do.
+pub const COMMANDS: [&str; 7] = ["verdict", "list", "run", "audit", "show", "pack", "dot"];
+
 /// Document 01's fabric F as text.
 pub const F: &str = "\
 edge 1 group 7 admits any

@@ -3,12 +3,15 @@
 
 #![allow(dead_code)]
 
-pub mod fabrics;
+pub mod checks;
 pub mod fence;
 pub mod program;
+mod query;
 
-use mwishovala::{raw, HeaderSet};
-use reference::file::to_le_words;
+pub use query::to_host;
+
+use mwishovala::raw;
+use reference::calls::{read_answer, Answer};
 use reference::Query;
 
 /// One of the three calls, twice.
@@ -48,9 +51,6 @@ impl Call {
     }
 }
 
-/// The words written, or number and place of the no.
-pub type Answer = Result<Vec<u32>, (u8, u64)>;
-
 /// Makes the call of both, on a lent area of this length, and fails unless
 /// code and every byte are the same.
 pub fn agreed(call: Call, file: &[u8], lent: usize, query: &Query) -> Answer {
@@ -64,11 +64,7 @@ pub fn agreed(call: Call, file: &[u8], lent: usize, query: &Query) -> Answer {
         product.1 == reference.1,
         "{name}, {lent} lent: other bytes: {query:x?}"
     );
-    let (number, place) = ((product.0 % 256) as u8, product.0 / 256);
-    match number {
-        0 => Ok(to_le_words(&product.1[..4 * place as usize])),
-        _ => Err((number, place)),
-    }
+    read_answer(product.0, &product.1)
 }
 
 /// The product's code and area. Fails if a byte around the area or of the file
@@ -87,18 +83,6 @@ pub fn reference_alone(call: Call, file: &[u8], lent: usize, query: &Query) -> (
     let mut area = fresh(lent);
     let code = (call.reference)(file, &mut area, query);
     (code, area)
-}
-
-pub fn to_host(query: &Query) -> mwishovala::Query {
-    mwishovala::Query {
-        port: query.port,
-        hops: query.limit,
-        budget: query.budget,
-        asked: HeaderSet {
-            care: query.care,
-            value: query.value,
-        },
-    }
 }
 
 /// What an area holds before it is lent.

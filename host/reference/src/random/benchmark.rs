@@ -8,7 +8,8 @@ pub use campus::campus;
 pub use deep_ring::deep_ring;
 
 use crate::calls::Query;
-use crate::fabric::{Edge, Entry, Fabric};
+use crate::examples::{edge, entry, fabric, wild_query};
+use crate::fabric::{Entry, Fabric};
 use crate::set::{from_words, Rewrite, Set};
 
 /// A fabric and what to ask of it.
@@ -22,13 +23,7 @@ pub struct Benchmark {
 impl Benchmark {
     fn all_wild(name: &'static str, mut fabric: Fabric, target: u16) -> Benchmark {
         super::parts::tidy(&mut fabric);
-        let query = Query {
-            port: u32::from(target),
-            limit: 16,
-            budget: u32::MAX,
-            care: [0; 4],
-            value: [0; 4],
-        };
+        let query = wild_query(u32::from(target), 16, u32::MAX);
         Benchmark {
             name,
             fabric,
@@ -53,25 +48,14 @@ fn rewrite(mask: [u32; 4], value: [u32; 4]) -> Rewrite {
 
 fn deny(priority: u16, in_port: u16, matching: Set) -> Entry {
     Entry {
-        priority,
-        in_port,
-        out_port: 0,
         matching,
-        rewrite: Rewrite::NONE,
+        ..entry(priority, in_port, 0)
     }
 }
 
 /// Two edges of one group that admit every header.
 fn one_group(start: u16, target: u16) -> Fabric {
-    let edges = [start, target].map(|port| Edge {
-        group: 1,
-        port,
-        admitted: Set::ALL_WILD,
-    });
-    Fabric {
-        edges: edges.to_vec(),
-        ..Fabric::default()
-    }
+    fabric(&[edge(1, start), edge(1, target)], &[], &[])
 }
 
 /// An all-wild allow under twenty denies of two bits each: every deny doubles
@@ -87,9 +71,6 @@ pub fn twenty_denies() -> Benchmark {
         };
         fabric.entries.push(deny(2, start, matching));
     }
-    fabric.entries.push(Entry {
-        out_port: target,
-        ..deny(1, start, Set::ALL_WILD)
-    });
+    fabric.entries.push(entry(1, start, target));
     Benchmark::all_wild("twenty denies", fabric, target)
 }

@@ -7,10 +7,10 @@ mod records;
 
 use super::parts::{some_ports, tidy};
 use super::Rng;
-use crate::fabric::{Edge, Entry, Fabric, Link, PORTS};
+use crate::examples::{edge, entry};
+use crate::fabric::{Fabric, Link, PORTS};
 use crate::file::read;
 use crate::refusal::Refusal;
-use crate::set::{Rewrite, Set};
 
 use chance::{flipped, record_changed, words_changed};
 use layout::{misplaced_end, stray_zero_bit, wrong_kind, wrong_length, wrong_start, File};
@@ -19,9 +19,22 @@ use records::{
     wrong_entry_port, wrong_link_port,
 };
 
-/// A way to damage a file, named for the clause that it breaks.
-#[derive(Clone, Copy, Debug, PartialEq, Eq)]
-pub enum Damage {
+/// The ways and the array of them all, from one list of names.
+macro_rules! ways {
+    ($($how:ident,)*) => {
+        /// A way to damage a file, named for the clause that it breaks.
+        #[derive(Clone, Copy, Debug, PartialEq, Eq)]
+        pub enum Damage {
+            $($how,)*
+        }
+
+        impl Damage {
+            pub const ALL: [Damage; 43] = [$(Damage::$how,)*];
+        }
+    };
+}
+
+ways! {
     // Question 1.
     TooShort,
     NotWholeWords,
@@ -73,57 +86,6 @@ pub enum Damage {
     SwappedWords,
     RecordTwice,
     RecordGone,
-}
-
-impl Damage {
-    pub const ALL: [Damage; 43] = {
-        use Damage::*;
-        [
-            TooShort,
-            NotWholeWords,
-            TooLong,
-            Truncated,
-            Padded,
-            WrongCount,
-            WrongVersion,
-            NoStart,
-            NoWordHere,
-            UnknownKind,
-            SmallerKind,
-            RecordNotInside,
-            LinkZeroBits,
-            EntryZeroBits,
-            EndZeroBits,
-            EndInTheMiddle,
-            WordsAfterEnd,
-            EdgePortZero,
-            LinkFromZero,
-            LinkToZero,
-            EntryInPortZero,
-            EdgesFalling,
-            EdgesEqual,
-            LinksFalling,
-            LinksEqual,
-            LinkToItself,
-            EntryToItself,
-            EdgeValueOutside,
-            MatchValueOutside,
-            RewriteValueOutside,
-            LinkFromEdge,
-            LinkToEdge,
-            LinksWithOneEnd,
-            EdgeTooMany,
-            LinkTooMany,
-            EntryTooMany,
-            EntryTooManyAtInPort,
-            FlippedBit,
-            FlippedByte,
-            OtherWord,
-            SwappedWords,
-            RecordTwice,
-            RecordGone,
-        ]
-    };
 }
 
 /// A damaged file and, unless the damage was at random, what refuses it.
@@ -180,14 +142,14 @@ fn furnish(fabric: &mut Fabric, rng: &mut Rng) {
     let mut ports = unused_ports(fabric, rng).into_iter();
     let mut port = || ports.next().unwrap_or(1);
     while fabric.edges.len() < 2 {
-        fabric.edges.push(plain_edge(port()));
+        fabric.edges.push(edge(1, port()));
     }
     while fabric.links.len() < 2 {
         let (from, to) = (port(), port());
         fabric.links.push(Link { from, to });
     }
     if fabric.entries.is_empty() {
-        fabric.entries.push(plain_entry(port()));
+        fabric.entries.push(entry(1, port(), 0));
     }
     tidy(fabric);
 }
@@ -205,24 +167,6 @@ fn unused_ports(fabric: &Fabric, rng: &mut Rng) -> Vec<u16> {
     let mut ports = some_ports(rng, PORTS);
     ports.retain(|&port| !used[usize::from(port)]);
     ports
-}
-
-fn plain_edge(port: u16) -> Edge {
-    Edge {
-        group: 1,
-        port,
-        admitted: Set::ALL_WILD,
-    }
-}
-
-fn plain_entry(in_port: u16) -> Entry {
-    Entry {
-        priority: 1,
-        in_port,
-        out_port: 0,
-        matching: Set::ALL_WILD,
-        rewrite: Rewrite::NONE,
-    }
 }
 
 fn refused(bytes: Vec<u8>, number: u8, place: usize) -> Damaged {

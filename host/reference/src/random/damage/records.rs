@@ -1,6 +1,7 @@
 //! Damage to what a record says: questions 4 to 7.
 
-use super::{plain_edge, plain_entry, refused, unused_ports, Damage, Damaged};
+use super::{refused, unused_ports, Damage, Damaged};
+use crate::examples::{edge, entry};
 use crate::fabric::{
     Entry, Fabric, Link, MOST_EDGES, MOST_ENTRIES, MOST_ENTRIES_PER_IN_PORT, MOST_LINKS,
 };
@@ -126,7 +127,7 @@ pub(super) fn too_many_edges_or_links(how: Damage, mut fabric: Fabric, rng: &mut
     let place = match how {
         Damage::EdgeTooMany => {
             while fabric.edges.len() <= MOST_EDGES {
-                fabric.edges.push(plain_edge(port()));
+                fabric.edges.push(edge(1, port()));
             }
             edge_place(MOST_EDGES)
         }
@@ -146,7 +147,9 @@ pub(super) fn too_many_entries(how: Damage, mut fabric: Fabric, rng: &mut Rng) -
     if how == Damage::EntryTooMany {
         let ports = unused_ports(&fabric, rng).into_iter();
         let lacking = MOST_ENTRIES + 1 - fabric.entries.len();
-        fabric.entries.extend(ports.take(lacking).map(plain_entry));
+        fabric
+            .entries
+            .extend(ports.take(lacking).map(|port| entry(1, port, 0)));
         // Room for one entry more than the largest file has.
         fabric.links.truncate(MOST_LINKS - ENTRY_WORDS);
         let place = entry_place(&fabric, MOST_ENTRIES);

@@ -1,7 +1,10 @@
-//! Fabrics and queries made by hand.
+//! Document 01's fabric F, and other fabrics and queries made by hand: what
+//! tests here and in the folder above both ask about.
 
-use reference::file::to_le_bytes;
-use reference::{Edge, Entry, Fabric, Link, Query, Rewrite, Set};
+use crate::calls::Query;
+use crate::fabric::{Edge, Entry, Fabric, Link};
+use crate::file::to_le_bytes;
+use crate::set::{Rewrite, Set};
 
 /// All wild.
 pub fn wild_query(port: u32, limit: u32, budget: u32) -> Query {
@@ -43,6 +46,21 @@ pub fn fabric_f() -> Vec<u8> {
     to_le_bytes(&words)
 }
 
+/// A file of these words after a right start.
+pub fn file_of(records: &[u32]) -> Vec<u8> {
+    let mut words = vec![0x10010000 + records.len() as u32 + 1];
+    words.extend(records);
+    to_le_bytes(&words)
+}
+
+/// An edge or entry record with 0 in its further words.
+pub fn record(first: u32) -> Vec<u32> {
+    let mut record = vec![first];
+    record.resize(if first >> 28 == 2 { 9 } else { 18 }, 0);
+    record
+}
+
+/// An edge that admits every header.
 pub fn edge(group: u16, port: u16) -> Edge {
     Edge {
         group,
@@ -74,13 +92,25 @@ pub fn fabric(edges: &[Edge], links: &[Link], entries: &[Entry]) -> Fabric {
     }
 }
 
+/// The headers with this tp_dst.
+pub fn tp_dst(port: u32) -> Set {
+    Set {
+        care: 0xffff << 32,
+        value: u128::from(port) << 32,
+    }
+}
+
+/// The rewrite of tp_dst to this.
+pub fn to_tp_dst(port: u32) -> Rewrite {
+    Rewrite {
+        mask: 0xffff << 32,
+        value: u128::from(port) << 32,
+    }
+}
+
 /// Two edges, links and rewrites: every kind of record, and a way of three hops
 /// from 1 to 2.
 pub fn linked() -> Fabric {
-    let tp_dst = |port: u128| Set {
-        care: 0xffff << 32,
-        value: port << 32,
-    };
     let mut entries = [
         entry(7, 1, 10),
         entry(9, 11, 0),
@@ -88,10 +118,7 @@ pub fn linked() -> Fabric {
         entry(5, 13, 2),
         entry(5, 2, 10),
     ];
-    entries[0].rewrite = Rewrite {
-        mask: tp_dst(5).care,
-        value: tp_dst(5).value,
-    };
+    entries[0].rewrite = to_tp_dst(5);
     entries[1].matching = tp_dst(22);
     entries[3].matching = tp_dst(5);
     let mut edges = [edge(1, 1), edge(1, 2)];
