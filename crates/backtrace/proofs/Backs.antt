@@ -8,7 +8,7 @@ use Rattle.headers.specs.Sets.{Set, Rewrite, undone, intersection}
 use Rattle.headers.specs.Forms.{setOf, formOf, maybeOf}
 use Rattle.headers.specs.declared.HeaderSet.{HeaderSet}
 use Rattle.headers.specs.declared.MaybeSet.{MaybeSet}
-use Rattle.file.specs.File.{entryRewrite, entryMatch}
+use Rattle.records.specs.Records.{entryRewrite, entryMatch}
 use Rattle.backtrace.specs.Cycle.{backFrom}
 
 module _ (x : List ℕ) (t : Set) (r : Rewrite) (u : MaybeSet) (read : r ≡ entryRewrite x) (undo : u ≡ maybeOf (undone 4 r t)) where

@@ -9,7 +9,7 @@ use borrow.Author.Tests.{lt-ltb, le-ltb, eq-eqb, ne-eqb}
 use lib.Dec.{eqb, ltb}
 use lib.ListN.{getD}
 use Rattle.headers.specs.Bits.{positions, those}
-use Rattle.file.specs.File.{entryIn, entryPriority}
+use Rattle.records.specs.Records.{entryIn, entryPriority}
 use Rattle.forwarding.specs.Fabric.{Fabric, inPortOf, priorityOf, beats}
 use Rattle.forwarding.specs.BackTrace.{beaters}
 use Rattle.model.specs.Model.{AFabric, fabricIn}

@@ -12,7 +12,7 @@ use Rattle.headers.specs.Carving.{parts, carve, nextCut}
 use Rattle.headers.specs.Forms.{setOf, nextOf}
 use Rattle.headers.specs.declared.NextPart.{NextPart}
 use Rattle.headers.proofs.Carved.{parts-end, parts-next, parts-last}
-use Rattle.file.specs.File.{entryIn}
+use Rattle.records.specs.Records.{entryIn}
 use Rattle.forwarding.specs.Fabric.{beats}
 use Rattle.forwarding.specs.Trace.{Event, unit, stop, carved, atInPort}
 use Rattle.model.specs.Model.{AFabric, fabricIn}

@@ -7,9 +7,9 @@ use native.Mathlib.Omega.{arith}
 use borrow.Author.Tests.{lt-ltb}
 use lib.ListN.{length, take, drop}
 use Rattle.headers.specs.Sets.{Set, WellFormed, undone, intersection}
-use Rattle.file.specs.File.{headerWords, bytesFrom, entryWords, entryIn, entryPriority, entryMatch}
-use Rattle.file.specs.Records.{placeOf}
-use Rattle.file.specs.declared.Shape.{Shape}
+use Rattle.records.specs.Words.{bytesFrom}
+use Rattle.records.specs.Records.{headerWords, entryWords, entryIn, entryPriority, entryMatch, placeOf}
+use Rattle.records.specs.declared.Shape.{Shape}
 use Rattle.file.proofs.Accepted.{few-entries, entry-inside, entry-of}
 use Rattle.forwarding.specs.Fabric.{Entry, inPortOf, priorityOf, undoes}
 use Rattle.forwarding.specs.BackTrace.{back}

@@ -4,13 +4,12 @@ use mathlib.Core.Path.{_≡_, ap, _∙_}
 use Prim.Native.Nat.{ℕ, suc, _*_}
 use lib.ListN.{length}
 use Rattle.headers.specs.Sets.{allWild}
-use Rattle.file.specs.File.{headerWords, edgeWords, edgeGroup, edgeAdmitted}
-use Rattle.file.specs.Records.{portOfEdge, edgeBytes, recent}
-use Rattle.file.specs.Tables.{number}
+use Rattle.records.specs.Records.{headerWords, edgeWords, edgeGroup, edgeAdmitted, portOfEdge, edgeBytes, recent}
+use Rattle.questions.specs.Tables.{number}
 use Rattle.file.specs.Accepted.{HasEdge}
-use Rattle.file.specs.declared.Shape.{Shape}
+use Rattle.records.specs.declared.Shape.{Shape}
 use Rattle.file.proofs.Accepted as accepted
-use Rattle.file.proofs.Lists.{number-is}
+use Rattle.questions.proofs.Lists.{number-is}
 use Rattle.model.specs.Model.{shapeRead, shapeIn, under, edgeAt, fabricOf, fabricIn}
 
 module _ {f : List ℕ} {k : ℕ} (has : HasEdge f k) where

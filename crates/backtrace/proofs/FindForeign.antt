@@ -14,8 +14,7 @@ use Rattle.headers.specs.declared.MaybeSet.{MaybeSet}
 use Rattle.headers.specs.declared.NextPart.{NextPart}
 use Rattle.headers.proofs.Carved.{parts-end, parts-next}
 use Rattle.answer.specs.Answer.{writtenAt}
-use Rattle.file.specs.File.{edgeGroup, edgeAdmitted}
-use Rattle.file.specs.Records.{portOfEdge, edgeBytes}
+use Rattle.records.specs.Records.{edgeGroup, edgeAdmitted, portOfEdge, edgeBytes}
 use Rattle.file.specs.Accepted.{HasEdge}
 use Rattle.forwarding.specs.Verdict.{foreignPacket}
 use Rattle.model.specs.Model.{fabricOf, fabricIn}

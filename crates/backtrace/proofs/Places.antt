@@ -8,9 +8,9 @@ use native.Mathlib.Omega.{arith}
 use borrow.Author.Tests.{ltb-true, le-leb, lt-leb}
 use lib.Dec.{leb, ltb}
 use Rattle.headers.specs.Sets.{Set}
-use Rattle.file.specs.Records.{portOfEdge, fromOfLink}
+use Rattle.records.specs.Records.{portOfEdge, fromOfLink}
 use Rattle.file.specs.Accepted.{HasEdge}
-use Rattle.file.proofs.Lists.{number-has}
+use Rattle.questions.proofs.Lists.{number-has}
 use Rattle.forwarding.specs.Trace.{Event, find, stop, fromPort, atInPort}
 use Rattle.model.specs.Model.{AFabric, shapeIn, under, edgeAt, linkEnding, fabricOf, fabricIn}
 use Rattle.index.specs.Index.{placeAt}

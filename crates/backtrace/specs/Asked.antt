@@ -6,7 +6,7 @@ use lib.ListN.{length, getD, drop}
 use Rattle.forwarding.specs.Fabric as Forwarding
 use Rattle.forwarding.specs.Trace.{Find}
 use Rattle.headers.specs.Sets.{Set}
-use Rattle.file.specs.Records.{portOfEdge}
+use Rattle.records.specs.Records.{portOfEdge}
 use Rattle.model.specs.Model.{AFabric, fabricIn, entriesAt}
 use Rattle.backtrace.specs.Play.{World, Played, counted, listed, judged}
 

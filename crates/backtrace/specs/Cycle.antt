@@ -8,8 +8,7 @@ use lib.Dec.{leb}
 use lib.ListN.{length, getD, drop}
 use Rattle.headers.specs.Bits.{positions, those}
 use Rattle.headers.specs.Sets.{Set, intersection, undone}
-use Rattle.file.specs.File.{headerWords, entryMatch, entryRewrite}
-use Rattle.file.specs.Records.{portOfEdge, entryBytes}
+use Rattle.records.specs.Records.{headerWords, entryMatch, entryRewrite, portOfEdge, entryBytes}
 use Rattle.file.specs.Accepted.{HasEdge}
 use Rattle.forwarding.specs.Fabric.{Fabric, inPortOf, beats}
 use Rattle.forwarding.specs.Trace.{Event, find, stop, fromPort, carved, atInPort}

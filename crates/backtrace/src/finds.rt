@@ -13,8 +13,7 @@ ghost use Rattle.headers.specs.Sets.{lowest};
 ghost use Rattle.headers.specs.Carving.{carve};
 ghost use Rattle.headers.specs.Forms.{setOf, maybeOf};
 ghost use Rattle.answer.specs.Answer.{writtenAt, sixteen};
-ghost use Rattle.file.specs.File.{edgeWords, edgeGroup, edgeAdmitted};
-ghost use Rattle.file.specs.Records.{portOfEdge};
+ghost use Rattle.records.specs.Records.{edgeWords, edgeGroup, edgeAdmitted, portOfEdge};
 ghost use Rattle.file.specs.Accepted.{HasEdge};
 ghost use Rattle.model.specs.Model.{fabricIn};
 ghost use Rattle.backtrace.specs.Play.{findWords, reachedWords, tooMany, countedOn, listed, judged};
@@ -38,7 +37,7 @@ fn port_at(file: &[u8], k: usize) -> u32
     requires { ⌜ HasEdge (now file) k ⌝ }
     ensures { λ r. ⌜ r ≡ portOfEdge (now (file .entry)) k ⌝ }
 {
-    file::port(file::edge(file, k))
+    records::port(file::edge(file, k))
 }
 
 // ---- the list
@@ -154,8 +153,8 @@ fn foreign_part(edge: &[u8], group: u32, p: HeaderSet) -> MaybeSet
     requires { ⌜ length (now edge) ≡ 4 * edgeWords ⌝ }
     ensures { λ r. ⌜ r ≡ maybeOf (cond (eqb (edgeGroup (now (edge .entry))) group) (head? (carve 4 (setOf p) (edgeAdmitted (now (edge .entry))))) (some (setOf p))) ⌝ }
 {
-    if file::group(edge) == group {
-        first_part(p, file::admitted(edge))
+    if records::group(edge) == group {
+        first_part(p, records::admitted(edge))
     } else {
         MaybeSet { some: true, set: p }
     }

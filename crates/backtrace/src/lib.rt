@@ -10,7 +10,7 @@ ghost use mathlib.Core.Path.{_≡_};
 ghost use Prim.Native.Nat.{suc, _+_, _-_, _*_, _^_, _<_};
 ghost use lib.ListN.{length, getD, set, drop};
 ghost use Rattle.headers.specs.Forms.{setOf, maybeOf};
-ghost use Rattle.file.specs.File.{entryWords};
+ghost use Rattle.records.specs.Records.{entryWords};
 ghost use Rattle.model.specs.Model.{fabricIn};
 ghost use Rattle.index.specs.Index.{Index};
 ghost use Rattle.backtrace.specs.Asked.{floorOf};
@@ -113,7 +113,7 @@ fn match_at(file: &[u8], base: usize, e: usize) -> HeaderSet
     requires { ⌜ e < fabricIn (now file) .entries ⌝ }
     ensures { λ r. ⌜ setOf r ≡ fabricIn (now (file .entry)) .entry e .matches ⌝ }
 {
-    file::match_set(entry_at(file, base, e))
+    records::match_set(entry_at(file, base, e))
 }
 
 // The headers that entry x takes at its in-port and makes into headers of t.
@@ -121,12 +121,12 @@ fn before(x: &[u8], t: HeaderSet) -> MaybeSet
     requires { ⌜ length (now x) ≡ 4 * entryWords ⌝ }
     ensures { λ r. ⌜ r ≡ maybeOf (backFrom (now (x .entry)) (setOf t)) ⌝ }
 {
-    let u = file::action(x).undo(t);
+    let u = records::action(x).undo(t);
     if !u.some {
         return u;
     }
     let s = u.set;
-    s.intersect(file::match_set(x))
+    s.intersect(records::match_set(x))
 }
 
 // ---- beaters
@@ -146,10 +146,10 @@ fn next_beater<'a>(
     requires { ⌜ SameInPort (now file) e j ⌝ }
     ensures { λ r. ⌜ NextBeater (fabricIn (now (file .entry))) e j r ⌝ }
 {
-    let q = file::priority(x);
+    let q = records::priority(x);
     let mut b = j;
     while b < NO_ENTRY {
-        let r = file::priority(entry_at(file, base, b));
+        let r = records::priority(entry_at(file, base, b));
         if q < r {
             return b;
         }
@@ -174,7 +174,7 @@ fn first_beater<'a>(
     requires { ⌜ IsEntry (now file) e (now x) ⌝ }
     ensures { λ r. ⌜ NextBeater (fabricIn (now (file .entry))) e 0 r ⌝ }
 {
-    let port = file::in_port(x) as usize;
+    let port = records::in_port(x) as usize;
     next_beater(file, base, index, x, e, first_in(index, port))
 }
 
@@ -304,7 +304,7 @@ fn carve<'a>(
     ensures { λ _. ⌜ Kept d (now (path .entry)) (now (path .exit)) ⌝ }
 {
     if b == NO_ENTRY {
-        let port = file::in_port(x) as usize;
+        let port = records::in_port(x) as usize;
         let place = place_at(index, port);
         return stop(file, ask, index, area, place, p, d, path, counters);
     }

@@ -10,8 +10,8 @@ use Rattle.headers.specs.Bits.{bit, bitAt, positions, those, setBits, single}
 use Rattle.headers.specs.Sets.{intersection, undone}
 use Rattle.headers.specs.Carving.{partsAt, parts, carve}
 use Rattle.answer.specs.Answer.{Outcome, bytesOf, refused, answered, sixteen}
-use Rattle.file.specs.File.{wordAt, bytesFrom}
-use Rattle.file.specs.Questions.{pick, accepted, records, passed, asked, inOrder, portsRight, setsTidy, linkFree, withinLimits, sized, started}
+use Rattle.records.specs.Words.{wordAt, bytesFrom}
+use Rattle.questions.specs.Questions.{pick, accepted, records, passed, asked, inOrder, portsRight, setsTidy, linkFree, withinLimits, sized, started}
 use Rattle.forwarding.specs.Fabric.{beats, undoes}
 use Rattle.forwarding.specs.BackTrace.{back, beaters}
 use Rattle.forwarding.specs.Trace.{carved, atInPort, takenUp, stop, units, finds}

@@ -6,8 +6,8 @@ use Prim.Native.Nat.{ℕ, _≤_}
 use lib.ListN.{length, replicate}
 use Rattle.headers.specs.Sets.{Set, Rewrite, allWild}
 use Rattle.answer.specs.Answer.{Outcome, bytesOf, refused, answered}
-use Rattle.file.specs.Questions.{shape, accepted}
-use Rattle.file.specs.declared.Read.the-variants.{Fabric}
+use Rattle.questions.specs.Questions.{shape, accepted}
+use Rattle.questions.specs.declared.Read.the-variants.{Fabric}
 use Rattle.forwarding.specs.BackTrace.{back}
 use Rattle.forwarding.specs.Examples.{header, tpDst, setTpDst, linked, entryOf}
 use Rattle.forwarding.specs.Fabric as Forwarding

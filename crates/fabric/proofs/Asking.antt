@@ -8,7 +8,7 @@ use lib.Dec.{eqb}
 use lib.ListN.{length, take, drop}
 use borrow.Author.Tests.{eq-eqb, ne-eqb}
 use Rattle.answer.specs.Answer.{Outcome, outcome, refused, answered, writtenAt, bytesOf}
-use Rattle.file.specs.Questions.{pick, Question, firstNo}
+use Rattle.questions.specs.Questions.{pick, Question, firstNo}
 use Rattle.fabric.specs.Questions.{orRefused}
 
 abbrev pub Yeses : List Question → Type 0

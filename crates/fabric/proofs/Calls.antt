@@ -3,8 +3,8 @@ use mathlib.Core.List.{List}
 use mathlib.Core.Path.{_≡_, refl}
 use Prim.Native.Nat.{ℕ}
 use Rattle.answer.specs.Answer.{refused}
-use Rattle.file.specs.Questions.{accepted}
-use Rattle.file.specs.declared.Read.the-variants.{No}
+use Rattle.questions.specs.Questions.{accepted}
+use Rattle.questions.specs.declared.Read.the-variants.{No}
 use Rattle.fabric.specs.Questions.{Query}
 use Rattle.fabric.specs.Verdict.{verdictCall}
 use Rattle.fabric.specs.List.{listCall}

@@ -11,11 +11,11 @@ use lib.ListN.{getD}
 use Rattle.headers.specs.Bits.{Words}
 use Rattle.headers.specs.Sets.{WellFormed}
 use Rattle.answer.specs.Answer.{Outcome, refused}
-use Rattle.file.specs.File.{headerWords}
-use Rattle.file.specs.Questions.{firstNo}
+use Rattle.records.specs.Records.{headerWords}
+use Rattle.questions.specs.Questions.{firstNo}
 use Rattle.file.specs.Accepted.{Accepted}
-use Rattle.file.specs.declared.Shape.{Shape}
-use Rattle.file.specs.declared.Read.{Read}
+use Rattle.records.specs.declared.Shape.{Shape}
+use Rattle.questions.specs.declared.Read.{Read}
 use Rattle.forwarding.specs.Fabric.{Fabric, Sound}
 use Rattle.forwarding.specs.Verdict.{Verdict, isolated, reached, isIsolated, NoLeak}
 use Rattle.forwarding.proofs.BackTraced.{back-traced-exactly}

@@ -10,7 +10,7 @@ use lib.Dec.{leb}
 use lib.ListN.{length, length-append}
 use Rattle.headers.specs.Sets.{Header}
 use Rattle.answer.specs.Answer.{Outcome, outcome, answered, writtenAt, sixteen}
-use Rattle.file.specs.Questions.{pick, Question, _asks_, firstNo}
+use Rattle.questions.specs.Questions.{pick, Question, _asks_, firstNo}
 use Rattle.forwarding.specs.Trace.{Event, trace}
 use Rattle.forwarding.specs.Verdict.{Verdict, isolated, reached, unitsIn}
 use Rattle.forwarding.proofs.Stops.{reached-long}

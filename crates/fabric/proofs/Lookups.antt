@@ -7,13 +7,12 @@ use native.Mathlib.Omega.{arith}
 use lib.Dec.{ltb}
 use lib.ListN.{getD}
 use Rattle.headers.proofs.Booleans.{refuted}
-use Rattle.file.specs.File.{edgeGroup}
+use Rattle.records.specs.Records.{edgeGroup, portOfEdge, fromOfLink, toOfLink, recent, edgeBytes}
 use Rattle.file.specs.Accepted.{Accepted}
-use Rattle.file.specs.Records.{portOfEdge, fromOfLink, toOfLink, recent, edgeBytes}
-use Rattle.file.specs.Tables.{Numbers}
-use Rattle.file.specs.declared.Shape.{Shape}
+use Rattle.questions.specs.Tables.{Numbers}
+use Rattle.records.specs.declared.Shape.{Shape}
 use Rattle.file.proofs.Accepted.{edge-port-low}
-use Rattle.file.proofs.Lists.{number-has}
+use Rattle.questions.proofs.Lists.{number-has}
 use Rattle.forwarding.specs.Fabric as Forwarding
 use Rattle.model.specs.Model.{under, edgeAt, linkBeginning, fabricOf, fabricIn}
 use Rattle.model.proofs.Shapes.{fabric-is, EdgeThere, edge-there}

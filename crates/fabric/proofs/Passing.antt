@@ -6,7 +6,7 @@ use native.Mathlib.Omega.{arith}
 use lib.ListN.{length, getD, replicate}
 use Rattle.headers.specs.Sets.{Set}
 use Rattle.file.specs.Accepted.{Accepted}
-use Rattle.file.specs.declared.Shape.{Shape}
+use Rattle.records.specs.declared.Shape.{Shape}
 use Rattle.forwarding.specs.Trace.{Event, stop, trace}
 use Rattle.model.specs.Model.{fabricIn, entriesAt}
 use Rattle.index.specs.Index.{Index}

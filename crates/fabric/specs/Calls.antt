@@ -2,7 +2,7 @@
 use mathlib.Core.List.{List}
 use Prim.Native.Nat.{ℕ}
 use Rattle.answer.specs.Answer.{Outcome}
-use Rattle.file.specs.declared.Read.{Read}
+use Rattle.questions.specs.declared.Read.{Read}
 use Rattle.fabric.specs.Questions.{Query}
 use Rattle.fabric.specs.Verdict.{verdictAnswer, verdictCall}
 use Rattle.fabric.specs.List.{listAnswer, listCall}

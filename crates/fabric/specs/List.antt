@@ -4,9 +4,9 @@ use Prim.Native.Nat.{ℕ, _*_}
 use lib.Dec.{leb}
 use lib.ListN.{length}
 use Rattle.answer.specs.Answer.{Outcome, refused, answered}
-use Rattle.file.specs.Questions.{accepted, Question, _asks_, firstNo}
-use Rattle.file.specs.declared.Read.{Read}
-use Rattle.file.specs.declared.Read.the-variants.{Fabric, No}
+use Rattle.questions.specs.Questions.{accepted, Question, _asks_, firstNo}
+use Rattle.questions.specs.declared.Read.{Read}
+use Rattle.questions.specs.declared.Read.the-variants.{Fabric, No}
 use Rattle.forwarding.specs.Fabric as Forwarding
 use Rattle.forwarding.specs.Trace.{Find, Event, trace, units, finds}
 use Rattle.backtrace.specs.Play.{listWords}

@@ -7,8 +7,8 @@ use lib.ListN.{length}
 use Rattle.headers.specs.Bits.{word, every}
 use Rattle.headers.specs.Sets.{Set, tidy}
 use Rattle.answer.specs.Answer.{Outcome, refused}
-use Rattle.file.specs.File.{headerWords}
-use Rattle.file.specs.Questions.{pick}
+use Rattle.records.specs.Records.{headerWords}
+use Rattle.questions.specs.Questions.{pick}
 
 -- "words 1 to 11 of the program's query": "target or start; hop limit; budget, unused by a run; care; value"
 pub record Query : Type 0 where

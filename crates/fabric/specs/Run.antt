@@ -3,9 +3,9 @@ use mathlib.Core.Bool.{_&&_}
 use mathlib.Core.List.{List, [], _∷_, _++_}
 use Prim.Native.Nat.{ℕ}
 use Rattle.answer.specs.Answer.{Outcome, refused, answered, sixteen}
-use Rattle.file.specs.Questions.{accepted, Question, _asks_, firstNo}
-use Rattle.file.specs.declared.Read.{Read}
-use Rattle.file.specs.declared.Read.the-variants.{Fabric, No}
+use Rattle.questions.specs.Questions.{accepted, Question, _asks_, firstNo}
+use Rattle.questions.specs.declared.Read.{Read}
+use Rattle.questions.specs.declared.Read.the-variants.{Fabric, No}
 use Rattle.forwarding.specs.Fabric as Forwarding
 use Rattle.forwarding.specs.Run.{Packet, run, fateOf, portOf, headerOf, entriesTaken, hopsMade}
 use Rattle.model.specs.Model.{fabricIn}

@@ -4,9 +4,9 @@ use Prim.Native.Nat.{ℕ}
 use lib.Dec.{leb}
 use lib.ListN.{replicate}
 use Rattle.answer.specs.Answer.{Outcome, refused, answered}
-use Rattle.file.specs.Questions.{accepted, Question, _asks_, firstNo}
-use Rattle.file.specs.declared.Read.{Read}
-use Rattle.file.specs.declared.Read.the-variants.{Fabric, No}
+use Rattle.questions.specs.Questions.{accepted, Question, _asks_, firstNo}
+use Rattle.questions.specs.declared.Read.{Read}
+use Rattle.questions.specs.declared.Read.the-variants.{Fabric, No}
 use Rattle.forwarding.specs.Fabric as Forwarding
 use Rattle.forwarding.specs.Verdict.{Verdict, isolated, reached, unitsIn, verdictOn}
 use Rattle.backtrace.specs.Play.{reachedWords}

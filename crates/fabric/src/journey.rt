@@ -1,12 +1,12 @@
 // A packet on its way: document 01, "Forwarding".
-use file::Shape;
+use records::Shape;
 ghost use mathlib.Core.Path.{_≡_};
 ghost use Prim.Native.Nat.{_≤_, _<_};
 ghost use lib.ListN.{length};
 ghost use Rattle.answer.specs.Answer.{writtenAt};
 ghost use Rattle.file.specs.Accepted.{Accepted};
-ghost use Rattle.file.specs.Records.{fromOfLink, recent};
-ghost use Rattle.file.specs.Tables.{Numbers};
+ghost use Rattle.records.specs.Records.{fromOfLink, recent};
+ghost use Rattle.questions.specs.Tables.{Numbers};
 ghost use Rattle.forwarding.specs.Run.{run};
 ghost use Rattle.model.specs.Model.{fabricIn};
 ghost use Rattle.fabric.specs.Journey.{journeyOf, journeyWords, Hopped};
@@ -66,8 +66,8 @@ fn hop(file: &[u8], shape: Shape, starts: &[u16; 4096], j: Journey) -> Journey
     }
     entries[n] = e as u32;
     let x = file::entry(file, shape, e);
-    let o = file::out_port(x);
-    let after = file::action(x).apply(header);
+    let o = records::out_port(x);
+    let after = records::action(x).apply(header);
     if o == 0 {
         return Journey {
             fate: 1,

@@ -3,9 +3,9 @@
 mod journey;
 mod trace;
 
-use file::Read;
-use file::Shape;
 use headers::HeaderSet;
+use questions::Read;
+use records::Shape;
 ghost use mathlib.Core.Path.{_≡_};
 ghost use mathlib.Core.Bool.{_&&_};
 ghost use mathlib.Core.List.{[], _∷_};
@@ -14,10 +14,10 @@ ghost use lib.ListN.{length};
 ghost use Rattle.headers.specs.Forms.{setOf};
 ghost use Rattle.answer.specs.Answer.{outcome, writtenAt};
 ghost use Rattle.file.specs.Accepted.{Accepted};
-ghost use Rattle.file.specs.Questions.{pick};
-ghost use Rattle.file.specs.Records.{portOfEdge, fromOfLink, toOfLink, recent};
-ghost use Rattle.file.specs.Tables.{Numbers};
-ghost use Rattle.file.specs.declared.Read.the-variants.{Fabric};
+ghost use Rattle.questions.specs.Questions.{pick};
+ghost use Rattle.records.specs.Records.{portOfEdge, fromOfLink, toOfLink, recent};
+ghost use Rattle.questions.specs.Tables.{Numbers};
+ghost use Rattle.questions.specs.declared.Read.the-variants.{Fabric};
 ghost use Rattle.forwarding.specs.Verdict.{isolated};
 ghost use Rattle.model.specs.Model.{fabricIn};
 ghost use Rattle.fabric.specs.Questions.{query, limitRight, caresForAll};

@@ -1,14 +1,14 @@
 // One pass of the back-trace over an accepted file: document 01, "The first stop is the target with the limit."
-use file::Shape;
 use headers::HeaderSet;
+use records::Shape;
 ghost use mathlib.Core.Path.{_≡_};
 ghost use mathlib.Core.Bool.{true};
 ghost use Prim.Native.Nat.{_≤_};
 ghost use lib.ListN.{length};
 ghost use Rattle.headers.specs.Forms.{setOf};
 ghost use Rattle.file.specs.Accepted.{Accepted};
-ghost use Rattle.file.specs.Records.{portOfEdge, recent};
-ghost use Rattle.file.specs.Tables.{Numbers};
+ghost use Rattle.records.specs.Records.{portOfEdge, recent};
+ghost use Rattle.questions.specs.Tables.{Numbers};
 ghost use Rattle.index.specs.Index.{Index};
 ghost use Rattle.model.specs.Model.{fabricIn, entriesAt};
 ghost use Rattle.fabric.specs.Tracing.{playedThen, passOf};
@@ -35,7 +35,7 @@ fn group_at(file: &[u8], shape: Shape, edge_of: &[u16; 4096], port: u32) -> u32
     ensures { λ r. ⌜ r ≡ fabricIn (now (file .entry)) .group port ⌝ }
 {
     let k = edge_of[port as usize];
-    file::group(file::edge(file, (k - 1) as usize))
+    records::group(file::edge(file, (k - 1) as usize))
 }
 
 // The byte at which the entries begin.

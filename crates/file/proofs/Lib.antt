@@ -1,8 +1,5 @@
-pub mod Words
-pub mod Lists
 pub mod Tables
 mod Chains
-mod Asked
 mod Yes
 mod Steps
 mod Loops

@@ -4,12 +4,14 @@ use mathlib.Core.Path.{_≡_, refl, sym, ap, _∙_}
 use Prim.Native.Nat.{ℕ, _+_, _≤_, _<_}
 use native.Mathlib.Omega.{arith}
 use lib.ListN.{getD, set, replicate}
-use Rattle.file.specs.File.{wordAt, wordsIn, kindOf, portOf, fromOf, edgeWords, entryWords}
-use Rattle.file.specs.Questions.{latest, times}
-use Rattle.file.specs.Records.{placeOf, portOfEdge, fromOfLink, toOfLink, inOfEntry, recent, passedAt}
-use Rattle.file.specs.Tables.{Numbers, Empty}
-use Rattle.file.specs.Reading.{Here, Counts, askedAt, rest, RunRead}
-use Rattle.file.proofs.Lists.{recent-more}
+use Rattle.records.specs.Words.{wordAt, wordsIn, kindOf, portOf, fromOf}
+use Rattle.records.specs.Records.{edgeWords, entryWords, placeOf, portOfEdge, fromOfLink, toOfLink, inOfEntry, recent}
+use Rattle.questions.specs.Questions.{latest, times}
+use Rattle.questions.specs.Reading.{passedAt, Here, askedAt}
+use Rattle.questions.specs.Tables.{Numbers, Counts}
+use Rattle.file.specs.Tables.{Empty}
+use Rattle.file.specs.Reading.{rest, RunRead}
+use Rattle.questions.proofs.Lists.{recent-more}
 use Rattle.file.proofs.Tables.{zeros, numbered, counted}
 use Rattle.file.proofs.Yes.{yeses, EdgeIs, edge-is, LinkIs, link-is, EntryIs, entry-is}
 use Rattle.file.proofs.Steps.{stops, next-edge, next-link, next-entry}

@@ -9,14 +9,15 @@ use native.Mathlib.Numerals.{add-one}
 use native.Mathlib.Omega.{arith}
 use borrow.Author.Count.{below-more}
 use borrow.Author.Tests.{ne-eqb}
-use Rattle.file.specs.File.{wordAt, wordsIn, kindOf}
-use Rattle.file.specs.Questions.{passed, shape, records, accepted, sized, started}
-use Rattle.file.specs.Records.{placeOf, lastKind, passedAt}
-use Rattle.file.specs.Reading.{askedAt, rest}
-use Rattle.file.specs.declared.Shape.{Shape}
-use Rattle.file.specs.declared.Read.{Read}
-use Rattle.file.specs.declared.Read.the-variants.{Fabric}
-use Rattle.file.proofs.Lists.{recent-long}
+use Rattle.records.specs.Words.{wordAt, wordsIn, kindOf}
+use Rattle.questions.specs.Questions.{passed, shape, records, accepted, sized, started}
+use Rattle.records.specs.Records.{placeOf}
+use Rattle.questions.specs.Reading.{lastKind, passedAt, askedAt}
+use Rattle.file.specs.Reading.{rest}
+use Rattle.records.specs.declared.Shape.{Shape}
+use Rattle.questions.specs.declared.Read.{Read}
+use Rattle.questions.specs.declared.Read.the-variants.{Fabric}
+use Rattle.questions.proofs.Lists.{recent-long}
 use Rattle.file.proofs.Yes.{yeses, Ordered, ordered}
 use Rattle.file.proofs.Steps.{edge-passed, link-passed, entry-passed, next-edge, next-link, next-entry, ends-there}
 use Rattle.file.proofs.Whole.{no-entry-yet, no-link-yet, from-start}

@@ -7,13 +7,14 @@ use Prim.Native.Nat.{ℕ, suc, _+_, _-_, _≤_}
 use native.Mathlib.Omega.{arith}
 use lib.Dec.{ltb, eqb}
 use borrow.Author.Tests.{lt-ltb, ne-eqb}
-use Rattle.file.specs.File.{wordAt, wordsIn, kindOf, edgeWords, entryWords}
-use Rattle.file.specs.Questions.{pick, orElse, Passed, passed, shape, records}
-use Rattle.file.specs.Records.{placeOf, passedAt}
-use Rattle.file.specs.Reading.{askedAt, rest}
-use Rattle.file.specs.declared.Read.{Read}
-use Rattle.file.specs.declared.Read.the-variants.{Fabric}
-use Rattle.file.proofs.Lists.{recent-more, recent-long}
+use Rattle.records.specs.Words.{wordAt, wordsIn, kindOf}
+use Rattle.records.specs.Records.{edgeWords, entryWords, placeOf}
+use Rattle.questions.specs.Questions.{pick, orElse, Passed, passed, shape, records}
+use Rattle.questions.specs.Reading.{passedAt, askedAt}
+use Rattle.file.specs.Reading.{rest}
+use Rattle.questions.specs.declared.Read.{Read}
+use Rattle.questions.specs.declared.Read.the-variants.{Fabric}
+use Rattle.questions.proofs.Lists.{recent-more, recent-long}
 
 -- ---- one more of a kind
 

@@ -7,16 +7,17 @@ use native.Mathlib.Omega.{arith}
 use lib.Dec.{ltb, leb, eqb}
 use lib.ListN.{length}
 use borrow.Author.Tests.{lt-ltb, le-leb, ne-eqb, ltb-false, leb-true, eqb-true, not-true, not-false}
-use Rattle.file.specs.File.{wordAt, wordsIn, kindOf, bits}
-use Rattle.file.specs.Questions.{pick, orElse, asked, inOrder, portsRight, setsTidy, linkFree, withinLimits, shape, records, afterStart, accepted, sized, started}
-use Rattle.file.specs.Records.{placeOf, lastKind, passedAt}
-use Rattle.file.specs.Reading.{Bounded, askedAt, endsAt, rest, RunRead}
+use Rattle.records.specs.Words.{wordAt, wordsIn, kindOf, bits}
+use Rattle.questions.specs.Questions.{pick, orElse, asked, inOrder, portsRight, setsTidy, linkFree, withinLimits, shape, records, afterStart, accepted, sized, started}
+use Rattle.records.specs.Records.{placeOf}
+use Rattle.questions.specs.Reading.{lastKind, passedAt, Bounded, askedAt, endsAt}
+use Rattle.file.specs.Reading.{rest, RunRead}
 use Rattle.file.specs.Tables.{Tabled, Indexed}
-use Rattle.file.specs.declared.Read.{Read}
-use Rattle.file.specs.declared.Read.the-variants.{Fabric, No}
+use Rattle.questions.specs.declared.Read.{Read}
+use Rattle.questions.specs.declared.Read.the-variants.{Fabric, No}
 use Rattle.file.proofs.Chains.{parts}
-use Rattle.file.proofs.Words.{word-fits}
-use Rattle.file.proofs.Asked.{up-to-entries}
+use Rattle.records.proofs.Words.{word-fits}
+use Rattle.questions.proofs.Asked.{up-to-entries}
 use Rattle.file.proofs.Yes.{Ordered, ordered}
 use Rattle.file.proofs.Steps.{stops, ends-there}
 
@@ -154,14 +155,6 @@ bounded f h =
     let low : 8 ≤ length f = leb-true _ _ (part 1) in
     let high : length f ≤ 40200 = leb-true _ _ (part 2) in
     record { low = omega arith; high = omega arith }
-
--- what the code tests of word 0
-pub started-is : (f : List ℕ) (w k : ℕ) → w ≡ wordAt f 0 → k ≡ kindOf w
-    → (eqb k 1 && eqb (w / 65536 % 4096) 1 && eqb (w % 65536) (wordsIn f)) ≡ started f
-unfolding started
-started-is f w k hw hk =
-    let z : w % 65536 ≡ bits 15 0 w = omega arith in
-    rw (hk, z, hw)
 
 -- a is whether question 1 got a yes, b whether question 2 did
 module _ (f : List ℕ) (a : Bool) (ha : a ≡ sized f) where

@@ -7,12 +7,13 @@ use native.Mathlib.Omega.{arith}
 use lib.Dec.{ltb, leb, eqb}
 use borrow.Author.Tests.{ltb-true, leb-true, eqb-false, not-true}
 use Rattle.headers.specs.Sets.{tidy, writes}
-use Rattle.file.specs.File.{wordAt, wordsIn, kindOf, portOf, headerWords, admittedAt, edgeWords, matchAt, rewriteAt, entryWords, setFrom, rewriteFrom}
-use Rattle.file.specs.Questions.{latest, elem, times, byKind, _asks_, firstNo, Passed, kind, size, zeroBits, asked, inOrder, portsRight, setsTidy, linkFree, withinLimits}
-use Rattle.file.specs.Records.{placeOf, portOfEdge, fromOfLink, toOfLink, inOfEntry, recent, passedAt}
-use Rattle.file.proofs.Lists.{recent-long}
+use Rattle.records.specs.Words.{wordAt, wordsIn, kindOf, portOf}
+use Rattle.records.specs.Records.{headerWords, admittedAt, edgeWords, matchAt, rewriteAt, entryWords, setFrom, rewriteFrom, placeOf, portOfEdge, fromOfLink, toOfLink, inOfEntry, recent}
+use Rattle.questions.specs.Questions.{latest, elem, times, byKind, _asks_, firstNo, Passed, kind, size, zeroBits, asked, inOrder, portsRight, setsTidy, linkFree, withinLimits}
+use Rattle.questions.specs.Reading.{passedAt}
+use Rattle.questions.proofs.Lists.{recent-long}
 use Rattle.file.proofs.Chains.{parts}
-use Rattle.file.proofs.Words.{port-range, from-range}
+use Rattle.records.proofs.Words.{port-range, from-range}
 
 -- ---- five yeses
 

@@ -6,10 +6,10 @@ use mathlib.Core.Path.{_≡_}
 use Prim.Native.Nat.{ℕ, _*_, _≤_, _<_}
 use lib.ListN.{length}
 use Rattle.headers.specs.Sets.{WellFormed, Written, tidy, writes}
-use Rattle.file.specs.File.{headerWords, edgeWords, entryWords, edgePort, edgeAdmitted, entryIn, entryOut, entryMatch, entryRewrite}
-use Rattle.file.specs.Questions.{accepted}
-use Rattle.file.specs.declared.Shape.{Shape}
-use Rattle.file.specs.declared.Read.the-variants.{Fabric}
+use Rattle.records.specs.Records.{headerWords, edgeWords, entryWords, edgePort, edgeAdmitted, entryIn, entryOut, entryMatch, entryRewrite}
+use Rattle.questions.specs.Questions.{accepted}
+use Rattle.records.specs.declared.Shape.{Shape}
+use Rattle.questions.specs.declared.Read.the-variants.{Fabric}
 
 -- the file is accepted with this shape
 abbrev pub Accepted : List ℕ → Shape → Type 0

@@ -3,10 +3,10 @@ use mathlib.Core.List.{List, [], _∷_, _++_, map}
 use mathlib.Core.Path.{_≡_, refl}
 use Prim.Native.Nat.{ℕ, zero, suc, _+_, _*_, _/_, _%_}
 use lib.ListN.{replicate, set}
-use Rattle.file.specs.File.{wordAt}
-use Rattle.file.specs.Questions.{shape, accepted, records, passed, asked, inOrder, portsRight, setsTidy, linkFree, withinLimits, sized, started}
-use Rattle.file.specs.declared.Read.{Read}
-use Rattle.file.specs.declared.Read.the-variants.{Fabric, No}
+use Rattle.records.specs.Words.{wordAt}
+use Rattle.questions.specs.Questions.{shape, accepted, records, passed, asked, inOrder, portsRight, setsTidy, linkFree, withinLimits, sized, started}
+use Rattle.questions.specs.declared.Read.{Read}
+use Rattle.questions.specs.declared.Read.the-variants.{Fabric, No}
 
 -- words as the file's bytes
 abbrev pub bytesOf : List ℕ → List ℕ

@@ -18,8 +18,7 @@ use Rattle.headers.proofs.Carved.{carve-exact}
 use Rattle.forwarding.specs.Fabric.{Fabric, Sound, inPortOf, holds, beats, applied, undoes}
 use Rattle.forwarding.specs.Run.{unbeaten, takes}
 use Rattle.forwarding.specs.BackTrace.{back, beaters, survivors, backTraced}
-use Rattle.forwarding.proofs.Lists.{flatMap-member, total, total-flatMap, total-times, member-total, total-member}
-use Rattle.forwarding.proofs.Lists.{one-and, one-true, holders-total, noneOf, none-of-those}
+use Rattle.forwarding.proofs.Lists.{flatMap-member, total, total-flatMap, total-times, member-total, total-member, one-and, one-true, holders-total, noneOf, none-of-those}
 use Rattle.forwarding.proofs.OneHop.{undoes-exact, undoes-well-formed}
 use Rattle.forwarding.proofs.Parts.{part-well-formed}
 

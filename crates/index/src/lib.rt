@@ -1,10 +1,10 @@
 // The index of an accepted file, made once a call: see specs/Index.antt.
-use file::Shape;
+use records::Shape;
 ghost use mathlib.Core.Path.{_≡_};
 ghost use Prim.Native.Nat.{suc, _-_, _≤_, _<_};
 ghost use Rattle.file.specs.Accepted.{Accepted};
-ghost use Rattle.file.specs.Records.{portOfEdge, fromOfLink, toOfLink, recent};
-ghost use Rattle.file.specs.Tables.{Numbers};
+ghost use Rattle.records.specs.Records.{portOfEdge, fromOfLink, toOfLink, recent};
+ghost use Rattle.questions.specs.Tables.{Numbers};
 ghost use Rattle.index.specs.Index.{Index, placeAt};
 ghost use Rattle.index.specs.Building.{Placed, Partly, pushed};
 
@@ -77,8 +77,8 @@ fn chain_entry(file: &[u8], shape: Shape, e: usize, index: &mut [u16; 13312])
     ensures { λ _. ⌜ Partly (now (file .entry)) e (now (index .exit)) ⌝ }
 {
     let x = file::entry(file, shape, e);
-    let out = file::out_port(x) as usize;
-    let into = file::in_port(x) as usize;
+    let out = records::out_port(x) as usize;
+    let into = records::in_port(x) as usize;
     push(index, 4096 + out, 12288 + e, e);
     push(index, 8192 + into, 12800 + e, e);
 }

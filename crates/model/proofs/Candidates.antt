@@ -7,9 +7,9 @@ use native.Mathlib.Omega.{arith}
 use borrow.Author.Tests.{eq-eqb, ne-eqb}
 use lib.Dec.{eqb}
 use Rattle.headers.specs.Sets.{Header, Set, contains}
-use Rattle.file.specs.File.{headerWords, entryIn, entryMatch, entryPriority}
+use Rattle.records.specs.Records.{headerWords, entryIn, entryMatch, entryPriority}
 use Rattle.file.specs.Accepted.{Accepted}
-use Rattle.file.specs.declared.Shape.{Shape}
+use Rattle.records.specs.declared.Shape.{Shape}
 use Rattle.forwarding.specs.Fabric.{Fabric, inPortOf, priorityOf, holds}
 use Rattle.forwarding.proofs.Best.{candidate, Best, best-skip, best-keep, best-take}
 use Rattle.model.specs.Model.{fabricIn}

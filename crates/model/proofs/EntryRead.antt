@@ -3,11 +3,10 @@ use mathlib.Core.List.{List}
 use mathlib.Core.Path.{_≡_, refl, sym, ap, _∙_, subst}
 use Prim.Native.Nat.{ℕ, _*_, _≤_, _<_}
 use lib.ListN.{length}
-use Rattle.file.specs.File.{headerWords, entryWords, entryPriority, entryIn, entryOut, entryMatch, entryRewrite}
+use Rattle.records.specs.Records.{headerWords, entryWords, entryPriority, entryIn, entryOut, entryMatch, entryRewrite, entryBytes}
 use Rattle.file.specs.Accepted.{Accepted}
 use Rattle.file.specs.Accepted as Known
-use Rattle.file.specs.Records.{entryBytes}
-use Rattle.file.specs.declared.Shape.{Shape}
+use Rattle.records.specs.declared.Shape.{Shape}
 use Rattle.file.proofs.Accepted.{entry-of, few-entries}
 use Rattle.forwarding.specs.Fabric as Forwarding
 use Rattle.forwarding.specs.Fabric.{inPortOf, outPortOf, priorityOf}

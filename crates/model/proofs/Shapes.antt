@@ -6,13 +6,12 @@ use Prim.Native.Nat.{ℕ, zero, suc, _<_}
 use native.Mathlib.Omega.{arith}
 use lib.Dec.{ltb}
 use borrow.Author.Tests.{lt-ltb}
-use Rattle.file.specs.File.{edgeGroup, edgeAdmitted}
-use Rattle.file.specs.Questions.{pick, accepted}
+use Rattle.records.specs.Records.{edgeGroup, edgeAdmitted, portOfEdge, fromOfLink, toOfLink, edgeBytes, entryBytes, recent}
+use Rattle.questions.specs.Questions.{pick, accepted}
 use Rattle.file.specs.Accepted.{Accepted}
-use Rattle.file.specs.Records.{portOfEdge, fromOfLink, toOfLink, edgeBytes, entryBytes, recent}
-use Rattle.file.specs.Tables.{number}
-use Rattle.file.specs.declared.Shape.{Shape}
-use Rattle.file.proofs.Lists.{number-is, number-has, number-none}
+use Rattle.questions.specs.Tables.{number}
+use Rattle.records.specs.declared.Shape.{Shape}
+use Rattle.questions.proofs.Lists.{number-is, number-has, number-none}
 use Rattle.file.proofs.Accepted.{edges-differ}
 use Rattle.forwarding.specs.Fabric as Forwarding
 use Rattle.model.specs.Model.{AFabric, shapeRead, shapeIn, under, entryFrom, noEntry, edgeAt, fabricOf, fabricIn}

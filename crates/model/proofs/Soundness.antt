@@ -9,13 +9,12 @@ use lib.Dec.{ltb}
 use borrow.Author.Tests.{lt-ltb, le-ltb}
 use Rattle.headers.specs.Sets.{Set, Rewrite, WellFormed, Written, allWild, noRewrite}
 use Rattle.headers.proofs.Members.{all-wild-well-formed, no-bits}
-use Rattle.file.specs.File.{headerWords, edgeAdmitted}
-use Rattle.file.specs.Questions.{pick}
+use Rattle.records.specs.Records.{headerWords, edgeAdmitted, portOfEdge, fromOfLink, toOfLink, edgeBytes, entryBytes, recent}
+use Rattle.questions.specs.Questions.{pick}
 use Rattle.file.specs.Accepted.{Accepted}
-use Rattle.file.specs.Records.{portOfEdge, fromOfLink, toOfLink, edgeBytes, entryBytes, recent}
-use Rattle.file.specs.Tables.{number}
-use Rattle.file.specs.declared.Shape.{Shape}
-use Rattle.file.proofs.Lists.{number-is, number-has}
+use Rattle.questions.specs.Tables.{number}
+use Rattle.records.specs.declared.Shape.{Shape}
+use Rattle.questions.proofs.Lists.{number-is, number-has}
 use Rattle.file.proofs.Accepted.{edge-port-low, link-from-low, link-to-low, froms-differ, tos-differ, no-edge-at-from, no-edge-at-to, edge-of, entry-of}
 use Rattle.forwarding.specs.Fabric as Forwarding
 use Rattle.forwarding.specs.Fabric.{Sound}

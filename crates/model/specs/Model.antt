@@ -4,14 +4,13 @@ use mathlib.Core.Path.{_≡_}
 use Prim.Native.Nat.{ℕ, zero, suc, _*_}
 use lib.Dec.{ltb}
 use Rattle.headers.specs.Sets.{Set, allWild, noRewrite}
-use Rattle.file.specs.File.{headerWords, edgeGroup, edgeAdmitted, entryPriority, entryIn, entryOut, entryMatch, entryRewrite}
-use Rattle.file.specs.Questions.{pick, shape, accepted}
+use Rattle.records.specs.Records.{headerWords, edgeGroup, edgeAdmitted, entryPriority, entryIn, entryOut, entryMatch, entryRewrite, placeOf, portOfEdge, fromOfLink, toOfLink, recent, edgeBytes, entryBytes}
+use Rattle.questions.specs.Questions.{pick, shape, accepted}
 use Rattle.file.specs.Accepted.{Accepted}
-use Rattle.file.specs.Records.{placeOf, portOfEdge, fromOfLink, toOfLink, recent, edgeBytes, entryBytes}
-use Rattle.file.specs.Tables.{number}
-use Rattle.file.specs.declared.Shape.{Shape}
-use Rattle.file.specs.declared.Read.{Read}
-use Rattle.file.specs.declared.Read.the-variants.{Fabric, No}
+use Rattle.questions.specs.Tables.{number}
+use Rattle.records.specs.declared.Shape.{Shape}
+use Rattle.questions.specs.declared.Read.{Read}
+use Rattle.questions.specs.declared.Read.the-variants.{Fabric, No}
 use Rattle.forwarding.specs.Fabric as Forwarding
 
 -- "A fabric is accepted if 1 to 7 all get a yes."

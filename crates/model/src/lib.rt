@@ -1,5 +1,5 @@
 // The entry of an accepted file that takes a header. What a file's fabric is, is in specs/Model.antt.
-use file::Shape;
+use records::Shape;
 ghost use mathlib.Core.Path.{_≡_};
 ghost use Prim.Native.Nat.{_+_, _≤_, _<_};
 ghost use Rattle.file.specs.Accepted.{Accepted};
@@ -15,17 +15,17 @@ fn better(file: &[u8], shape: Shape, x: u32, h: [u32; 4], i: usize, best: usize)
     ensures { λ r. ⌜ Better (fabricIn (now (file .entry))) x h i best r ⌝ }
 {
     let e = file::entry(file, shape, i);
-    if file::in_port(e) != x {
+    if records::in_port(e) != x {
         return best;
     }
-    if !file::match_set(e).contains(h) {
+    if !records::match_set(e).contains(h) {
         return best;
     }
     if best == shape.entries {
         return i;
     }
     let b = file::entry(file, shape, best);
-    if file::priority(b) < file::priority(e) {
+    if records::priority(b) < records::priority(e) {
         return i;
     }
     best

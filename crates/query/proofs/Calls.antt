@@ -11,8 +11,8 @@ use lib.ListN.{length, take, drop, length-drop}
 use lib.Seq.{take-all}
 use Rattle.headers.specs.Sets.{Set}
 use Rattle.answer.specs.Answer.{Outcome, refused}
-use Rattle.file.specs.File.{wordAt}
-use Rattle.file.specs.Questions.{pick}
+use Rattle.records.specs.Words.{wordAt}
+use Rattle.questions.specs.Questions.{pick}
 use Rattle.fabric.specs.Questions.{Query, query}
 use Rattle.query.specs.Program.{askedIn, callNamed, madeOr, programCall}
 

@@ -6,8 +6,9 @@ use lib.Dec.{eqb, leb}
 use lib.ListN.{length, drop}
 use Rattle.headers.specs.Sets.{Set}
 use Rattle.answer.specs.Answer.{Outcome, refused}
-use Rattle.file.specs.File.{wordAt, setFrom, headerWords}
-use Rattle.file.specs.Questions.{pick}
+use Rattle.records.specs.Words.{wordAt}
+use Rattle.records.specs.Records.{setFrom, headerWords}
+use Rattle.questions.specs.Questions.{pick}
 use Rattle.fabric.specs.Questions.{Query, query}
 use Rattle.fabric.specs.Verdict.{verdictCall}
 use Rattle.fabric.specs.List.{listCall}

@@ -16,16 +16,16 @@ fn asked(input: &[u8]) -> HeaderSet
 {
     HeaderSet {
         care: [
-            file::word(input, 4),
-            file::word(input, 5),
-            file::word(input, 6),
-            file::word(input, 7),
+            records::word(input, 4),
+            records::word(input, 5),
+            records::word(input, 6),
+            records::word(input, 7),
         ],
         value: [
-            file::word(input, 8),
-            file::word(input, 9),
-            file::word(input, 10),
-            file::word(input, 11),
+            records::word(input, 8),
+            records::word(input, 9),
+            records::word(input, 10),
+            records::word(input, 11),
         ],
     }
 }
@@ -37,10 +37,10 @@ fn call(input: &[u8], area: &mut [u8]) -> u64
     if input.len() < 48 {
         return 14;
     }
-    let number = file::word(input, 0);
-    let port = file::word(input, 1);
-    let limit = file::word(input, 2);
-    let budget = file::word(input, 3);
+    let number = records::word(input, 0);
+    let port = records::word(input, 1);
+    let limit = records::word(input, 2);
+    let budget = records::word(input, 3);
     let set = asked(input);
     let fabric = &input[48..];
     if number == 1 {
@@ -74,7 +74,7 @@ fn put_words(area: &[u8], n: usize) {
     let end = least(n, area.len() / 4);
     let mut k: usize = 0;
     while k < end {
-        put_line(file::word(area, k));
+        put_line(records::word(area, k));
         k += 1;
     }
 }

@@ -6,7 +6,7 @@ use Rattle.headers.specs.Forms.{setOf}
 use Rattle.answer.specs.Answer.{refused}
 use Rattle.file.specs.Accepted.{Accepted}
 use Rattle.file.specs.Tables.{Indexed, Tabled}
-use Rattle.file.specs.declared.Read.{Read}
+use Rattle.questions.specs.declared.Read.{Read}
 use Rattle.file.proofs.Tables.{empty}
 use Rattle.fabric.specs.Questions.{Query, query}
 use Rattle.fabric.specs.Calls.{answerOf, callOf}

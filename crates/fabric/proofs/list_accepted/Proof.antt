@@ -12,7 +12,7 @@ use native.Mathlib.Omega.{arith}
 use Rattle.headers.specs.Forms.{setOf}
 use Rattle.headers.proofs.Booleans.{and-fst, and-snd}
 use Rattle.answer.specs.Answer.{Outcome, outcome, answered}
-use Rattle.file.specs.Questions.{pick, Question, _asks_, firstNo}
+use Rattle.questions.specs.Questions.{pick, Question, _asks_, firstNo}
 use Rattle.forwarding.specs.Fabric.{Fabric}
 use Rattle.forwarding.specs.Trace.{units}
 use Rattle.model.specs.Model.{fabricIn}

@@ -12,7 +12,7 @@ use native.Mathlib.Omega.{arith}
 use Rattle.headers.specs.Forms.{setOf}
 use Rattle.headers.proofs.Booleans.{and-snd}
 use Rattle.answer.specs.Answer.{writtenAt}
-use Rattle.file.specs.Questions.{pick, firstNo}
+use Rattle.questions.specs.Questions.{pick, firstNo}
 use Rattle.model.specs.Model.{fabricIn}
 use Rattle.fabric.specs.Questions.{query}
 use Rattle.fabric.specs.Run.{runQuestions, packetRun, packetWords}

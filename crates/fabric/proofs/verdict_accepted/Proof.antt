@@ -12,7 +12,7 @@ use native.Mathlib.Omega.{arith}
 use Rattle.headers.specs.Forms.{setOf}
 use Rattle.headers.proofs.Booleans.{and-fst, and-snd}
 use Rattle.answer.specs.Answer.{outcome, writtenAt}
-use Rattle.file.specs.Questions.{pick, firstNo}
+use Rattle.questions.specs.Questions.{pick, firstNo}
 use Rattle.forwarding.specs.Verdict.{isolated}
 use Rattle.backtrace.specs.Play.{Played}
 use Rattle.fabric.specs.Questions.{Query, query}

@@ -11,7 +11,7 @@ use native.Mathlib.Omega.{arith}
 use Rattle.headers.specs.Sets.{Set, contains}
 use Rattle.headers.specs.Forms.{setOf}
 use Rattle.headers.specs.declared.HeaderSet.{HeaderSet}
-use Rattle.file.specs.File.{headerWords, entryMatch}
+use Rattle.records.specs.Records.{headerWords, entryMatch}
 use Rattle.forwarding.specs.Fabric.{priorityOf}
 use Rattle.forwarding.proofs.Best.{candidate}
 use Rattle.model.specs.Model.{fabricIn}

@@ -11,7 +11,7 @@ use lib.Dec.{eqb}
 use lib.ListN.{length, take, drop}
 use Rattle.headers.specs.Forms.{setOf}
 use Rattle.answer.specs.Answer.{Outcome, refused}
-use Rattle.file.specs.File.{wordAt}
+use Rattle.records.specs.Words.{wordAt}
 use Rattle.fabric.specs.Questions.{Query, query}
 use Rattle.fabric.specs.Verdict.{verdictCall}
 use Rattle.fabric.specs.List.{listCall}

@@ -14,7 +14,7 @@ use Rattle.backtrace.proofs.place_at.Reads as place-at-reads
 use Rattle.backtrace.proofs.push.Reads as push-reads
 use Rattle.backtrace.proofs.two.Reads as two-reads
 use Rattle.backtrace.proofs.unit.Reads as unit-reads
-use Rattle.file.proofs.in_port.Reads as in-port-reads
+use Rattle.records.proofs.in_port.Reads as in-port-reads
 use Rattle.headers.proofs.HeaderSet.next_part.Reads as next-part-reads
 use Rattle.headers.proofs.HeaderSet.overlaps.Reads as overlaps-reads
 use Rattle.backtrace.proofs.carve.Reads as carve

@@ -2,7 +2,7 @@
 use mathlib.Core.Path.{ap, _∙_}
 use borrow.Author.Needs.{needs}
 use denote.Ref.{now}
-use Rattle.file.specs.File.{edgePort}
+use Rattle.records.specs.Records.{edgePort}
 use Rattle.file.proofs.Accepted.{edge-port-is}
 use Rattle.backtrace.proofs.FindEdge.{edge-long}
 use Rattle.backtrace.proofs.finds.port_at.Statement.{statement}

@@ -7,7 +7,7 @@ use borrow.Author.Needs.{needs}
 use denote.Ref.{now}
 use native.Mathlib.Omega.{arith}
 use Rattle.headers.specs.Sets.{Rewrite, rewritten}
-use Rattle.file.specs.File.{headerWords}
+use Rattle.records.specs.Records.{headerWords}
 use Rattle.file.proofs.Accepted.{few-entries}
 use Rattle.forwarding.specs.Fabric.{outPortOf, applied}
 use Rattle.forwarding.specs.Run.{taker}

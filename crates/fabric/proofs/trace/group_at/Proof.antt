@@ -5,8 +5,7 @@ use native.Mathlib.Omega.{arith}
 use borrow.Author.Needs.{needs}
 use denote.Ref.{now}
 use lib.ListN.{length, getD}
-use Rattle.file.specs.File.{edgeGroup}
-use Rattle.file.specs.Records.{edgeBytes}
+use Rattle.records.specs.Records.{edgeGroup, edgeBytes}
 use Rattle.file.proofs.Accepted.{few-edges, edge-of}
 use Rattle.fabric.proofs.Lookups.{EdgeFound, edge-found}
 use Rattle.fabric.proofs.trace.group_at.Statement.{statement}

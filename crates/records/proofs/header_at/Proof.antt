@@ -1,0 +1,43 @@
+-- Four words that were read are four words of the file.
+use Rattle.records.proofs.Words as laws
+use borrow.Author.Needs.{needs}
+use Rattle.records.proofs.header_at.Statement.{statement}
+use Rattle.records.proofs.header_at.Tie as tie
+
+word-requires : tie.Need-word-requires
+word-requires c κs = search needs
+
+add-word : tie.Need-add-word
+add-word c = search needs
+
+word-requires-2 : tie.Need-word-requires-2
+word-requires-2 c κs = search needs
+
+add-word-2 : tie.Need-add-word-2
+add-word-2 c = search needs
+
+word-requires-3 : tie.Need-word-requires-3
+word-requires-3 c κs = search needs
+
+add-word-3 : tie.Need-add-word-3
+add-word-3 c = search needs
+
+word-requires-4 : tie.Need-word-requires-4
+word-requires-4 c κs = search needs
+
+returns : tie.Need-returns
+returns c =
+    laws.four _ _ _ _ _ _ (c .before .before .before .word .ensures) (c .before .before .word2 .ensures) (c .before .word3 .ensures) (c .word4 .ensures)
+
+pub header-at-spec : {M : Type 1} → statement M
+header-at-spec =
+    tie.close
+    (tie.spec
+    word-requires
+    add-word
+    word-requires-2
+    add-word-2
+    word-requires-3
+    add-word-3
+    word-requires-4
+    returns)
