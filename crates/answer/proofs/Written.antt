@@ -5,7 +5,7 @@ use Prim.Native.Nat.{ℕ, suc, _+_, _*_, _/_, _%_, _≤_, _<_}
 use native.Mathlib.Numerals.{add-one}
 use native.Mathlib.Omega.{arith}
 use lib.ListN.{length, take, drop, set, getD, length-append, length-drop, take-append-drop}
-use lib.Seq.{length-take-le, take-at, drop-drop, sets, sets-eq, drop-append-add, take-suc}
+use lib.Seq.{length-take-le, take-at, drop-drop, sets-eq, drop-append-add, take-suc}
 use Rattle.answer.specs.Answer.{bytesOf, writtenAt}
 
 pub bytes-append : (us vs : List ℕ) → bytesOf (us ++ vs) ≡ bytesOf us ++ bytesOf vs

@@ -1,7 +1,6 @@
 -- What a call returns and leaves in the area lent: document 01, the last paragraph of "The back-trace and its count". Assumes nothing.
-use mathlib.Core.Bool.{Bool, true, false}
 use mathlib.Core.List.{List, [], _∷_, _++_}
-use Prim.Native.Nat.{ℕ, _+_, _*_, _/_, _%_, _^_}
+use Prim.Native.Nat.{ℕ, _+_, _*_, _/_, _%_}
 use lib.ListN.{length, take, drop, replicate}
 
 -- "answers are little-endian words"

@@ -18,13 +18,14 @@ use Rattle.forwarding.specs.Trace.{Event, unit, stop, carved, atInPort}
 use Rattle.model.specs.Model.{AFabric, fabricIn}
 use Rattle.index.specs.Chains.{noEntry}
 use Rattle.index.specs.Index.{Index, placeAt}
-use Rattle.backtrace.specs.Play.{play}
-use Rattle.backtrace.specs.Asked.{budgetOf, floorOf, worldOf, playedOf, foundBy}
-use Rattle.backtrace.specs.Cycle.{Tracing, Traced, Kept, IsPlace, eventsAt, IsEntry, beatersFrom, IsBeater, NextBeater, survivorEvents, eventsFrom, UnitMade}
-use Rattle.backtrace.proofs.Those.{from-here}
-use Rattle.backtrace.proofs.Entries.{entries-few, four-words, in-port-is, match-well-formed}
+use Rattle.entries.specs.Entries.{IsEntry, beatersFrom, IsBeater, NextBeater}
+use Rattle.entries.proofs.Those.{from-here}
+use Rattle.entries.proofs.Entries.{entries-few, four-words, in-port-is, match-well-formed}
+use Rattle.entries.proofs.Beaters.{beaters-here, beaters-end}
+use Rattle.events.specs.Play.{play}
+use Rattle.events.specs.Asked.{budgetOf, floorOf, worldOf, playedOf, foundBy, UnitMade}
+use Rattle.backtrace.specs.Cycle.{Tracing, Traced, Kept, IsPlace, eventsAt, survivorEvents, eventsFrom}
 use Rattle.backtrace.proofs.Cuts.{no-cut, a-cut, rest-cares}
-use Rattle.backtrace.proofs.Beaters.{beaters-here, beaters-end}
 use Rattle.backtrace.proofs.Places.{place-is-one, place-events}
 use Rattle.backtrace.proofs.Steps.{run, play-on, play-ended, unit-goes-on, unit-ends}
 use Rattle.backtrace.proofs.Paths.{kept-same, kept-on}

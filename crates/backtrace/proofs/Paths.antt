@@ -6,7 +6,7 @@ use native.Mathlib.Decide.{ℕ-discrete}
 use native.Mathlib.Omega.{arith}
 use lib.ListN.{length, getD, set, drop, length-set}
 use lib.Seq.{getD-set-same, getD-set-other, getD-drop, drop-drop, drop-cons, drop-set-lt}
-use Rattle.backtrace.specs.Asked.{Path}
+use Rattle.events.specs.Asked.{Path}
 use Rattle.backtrace.specs.Cycle.{Kept}
 
 pub kept-same : {d : ℕ} (path : List ℕ) → length path ≡ 16 → Kept d path path

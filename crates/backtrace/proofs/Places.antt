@@ -9,13 +9,13 @@ use borrow.Author.Tests.{ltb-true, le-leb, lt-leb}
 use lib.Dec.{leb, ltb}
 use Rattle.headers.specs.Sets.{Set}
 use Rattle.records.specs.Records.{portOfEdge, fromOfLink}
-use Rattle.file.specs.Accepted.{HasEdge}
 use Rattle.questions.proofs.Lists.{number-has}
+use Rattle.file.specs.Accepted.{HasEdge}
 use Rattle.forwarding.specs.Trace.{Event, find, stop, fromPort, atInPort}
 use Rattle.model.specs.Model.{AFabric, shapeIn, under, edgeAt, linkEnding, fabricOf, fabricIn}
 use Rattle.index.specs.Index.{placeAt}
+use Rattle.entries.proofs.Entries.{shape-is}
 use Rattle.backtrace.specs.Cycle.{IsPlace, eventsAt}
-use Rattle.backtrace.proofs.Entries.{shape-is}
 
 module _ {f : List ℕ} (a : AFabric f) (x : ℕ) where
   -- one more than the number of the edge at this in-port; 0 where there is none

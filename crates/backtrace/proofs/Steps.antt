@@ -4,10 +4,9 @@ use mathlib.Core.List.{List, [], _∷_, _++_}
 use mathlib.Core.Path.{_≡_, refl, sym, ap, _∙_}
 use Prim.Native.Nat.{ℕ, zero, suc}
 use Rattle.forwarding.specs.Trace.{Find, Event, unit, find}
-use Rattle.backtrace.specs.Play.{World, Played, andThen, step, play}
-use Rattle.backtrace.specs.Asked.{budgetOf, worldOf, playedOf, foundBy}
-use Rattle.backtrace.specs.Cycle.{statusOf, UnitMade}
-use Rattle.backtrace.proofs.Plays.{then-goes-on, play-append}
+use Rattle.events.specs.Play.{World, Played, andThen, step, play}
+use Rattle.events.specs.Asked.{budgetOf, worldOf, playedOf, foundBy, statusOf, UnitMade}
+use Rattle.events.proofs.Plays.{then-goes-on, play-append}
 
 -- what playing the events makes of the counters and the area
 abbrev pub run : List ℕ → List ℕ → List Event → List ℕ → List ℕ → Played

@@ -20,14 +20,15 @@ use Rattle.forwarding.specs.Trace.{Event, unit, find, stop, fromPort, takenUp, 
 use Rattle.model.specs.Model.{fabricIn}
 use Rattle.index.specs.Chains.{noEntry}
 use Rattle.index.proofs.Chained.{Next}
-use Rattle.backtrace.specs.Play.{play}
-use Rattle.backtrace.specs.Asked.{budgetOf, floorOf, worldOf, playedOf, foundBy, findAt}
-use Rattle.backtrace.specs.Cycle.{Tracing, Traced, Kept, eventsAt, IsEntry, InChain, backFrom, NextBeater, survivorEvents, eventsFrom, UnitMade, SameCounters}
-use Rattle.backtrace.proofs.Those.{from, from-here, from-end, from-skip}
-use Rattle.backtrace.proofs.Entries.{entries-few, back-is}
-use Rattle.backtrace.proofs.Backs.{maybe-none, maybe-some}
-use Rattle.backtrace.proofs.InChains.{chain-head, chain-next, next-in-chain}
-use Rattle.backtrace.proofs.Beaters.{beaters-all}
+use Rattle.entries.specs.Entries.{IsEntry, InChain, backFrom, NextBeater}
+use Rattle.entries.proofs.Those.{from, from-here, from-end, from-skip}
+use Rattle.entries.proofs.Entries.{entries-few, back-is}
+use Rattle.entries.proofs.Backs.{maybe-none, maybe-some}
+use Rattle.entries.proofs.InChains.{chain-head, chain-next, next-in-chain}
+use Rattle.entries.proofs.Beaters.{beaters-all}
+use Rattle.events.specs.Play.{play}
+use Rattle.events.specs.Asked.{budgetOf, floorOf, worldOf, playedOf, foundBy, findAt, UnitMade}
+use Rattle.backtrace.specs.Cycle.{Tracing, Traced, Kept, eventsAt, survivorEvents, eventsFrom, SameCounters}
 use Rattle.backtrace.proofs.Places.{port-events}
 use Rattle.backtrace.proofs.Steps.{run, play-find, play-on, play-ended, unit-goes-on, unit-ends}
 use Rattle.backtrace.proofs.Paths.{kept-same, kept-on, kept-pushed, pushed-drop}

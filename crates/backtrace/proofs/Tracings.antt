@@ -6,10 +6,11 @@ use Prim.Native.Nat.{ℕ, _-_, _<_}
 use native.Mathlib.Omega.{arith}
 use lib.ListN.{length, set}
 use Rattle.forwarding.specs.Trace.{Event}
-use Rattle.backtrace.specs.Play.{Played}
-use Rattle.backtrace.specs.Asked.{budgetOf, floorOf, baseOf, worldOf, foundBy}
-use Rattle.backtrace.specs.Cycle.{EntriesFrom, Tracing, Traced, Kept, UnitMade}
-use Rattle.backtrace.proofs.Budgets.{found-makes-none, play-within, unit-within}
+use Rattle.entries.specs.Entries.{EntriesFrom}
+use Rattle.events.specs.Play.{Played}
+use Rattle.events.specs.Asked.{budgetOf, floorOf, baseOf, worldOf, foundBy, UnitMade}
+use Rattle.events.proofs.Budgets.{found-makes-none, play-within, unit-within}
+use Rattle.backtrace.specs.Cycle.{Tracing, Traced, Kept}
 use Rattle.backtrace.proofs.Paths.{path-kept, path-pushed}
 
 module _ {f ask index : List ℕ} {d : ℕ} {path counters area : List ℕ} (t : Tracing f ask index d path counters area) where

@@ -16,8 +16,8 @@ use Rattle.forwarding.specs.Fabric.{beats, undoes}
 use Rattle.forwarding.specs.BackTrace.{back, beaters}
 use Rattle.forwarding.specs.Trace.{carved, atInPort, takenUp, stop, units, finds}
 use Rattle.forwarding.specs.Verdict.{foreignPacket, verdict, unitsIn}
-use Rattle.backtrace.specs.Play.{findWords, listWords, reachedWords}
 use Rattle.model.specs.Model.{shapeIn, edgeAt, fabricOf, fabricIn}
+use Rattle.events.specs.Play.{findWords, listWords, reachedWords}
 use Rattle.fabric.specs.Questions.{orRefused}
 use Rattle.fabric.specs.Verdict.{verdictWords, verdictCall}
 use Rattle.fabric.specs.List.{listCall}

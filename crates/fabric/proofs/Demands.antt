@@ -1,10 +1,10 @@
 -- The three demands hold: the first of each call by its definition, the others by forwarding's theorems, as an accepted file's fabric is
 -- sound. Assumes nothing.
-use mathlib.Core.Bool.{true, false, false≢true}
+use mathlib.Core.Bool.{true, false≢true}
 use mathlib.Core.List.{List}
 use mathlib.Core.Logic.{_↔_}
 use mathlib.Core.Path.{_≡_, refl, ap, _∙_}
-use Prim.Native.Nat.{ℕ, _<_}
+use Prim.Native.Nat.{ℕ}
 use native.Mathlib.Omega.{arith}
 use borrow.Author.Tests.{ne-eqb}
 use lib.ListN.{getD}
@@ -12,10 +12,10 @@ use Rattle.headers.specs.Bits.{Words}
 use Rattle.headers.specs.Sets.{WellFormed}
 use Rattle.answer.specs.Answer.{Outcome, refused}
 use Rattle.records.specs.Records.{headerWords}
-use Rattle.questions.specs.Questions.{firstNo}
-use Rattle.file.specs.Accepted.{Accepted}
 use Rattle.records.specs.declared.Shape.{Shape}
+use Rattle.questions.specs.Questions.{firstNo}
 use Rattle.questions.specs.declared.Read.{Read}
+use Rattle.file.specs.Accepted.{Accepted}
 use Rattle.forwarding.specs.Fabric.{Fabric, Sound}
 use Rattle.forwarding.specs.Verdict.{Verdict, isolated, reached, isIsolated, NoLeak}
 use Rattle.forwarding.proofs.BackTraced.{back-traced-exactly}
@@ -25,7 +25,7 @@ use Rattle.forwarding.proofs.Stops as stops
 use Rattle.forwarding.proofs.Verdicts as verdicts
 use Rattle.model.specs.Model.{fabricOf, fabricIn}
 use Rattle.model.proofs.Soundness.{fabric-sound}
-use Rattle.backtrace.specs.Play.{reachedWords}
+use Rattle.events.specs.Play.{reachedWords}
 use Rattle.fabric.specs.Questions.{Query, orRefused}
 use Rattle.fabric.specs.Run.{packetRun, packetWords, runQuestions, runAnswer, runCall}
 use Rattle.fabric.specs.Verdict.{verdictAsked, verdictWords, verdictQuestions, verdictAnswer, verdictCall}

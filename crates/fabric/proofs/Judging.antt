@@ -3,7 +3,7 @@ use mathlib.Core.Bool.{Bool, true, false, cond}
 use mathlib.Core.List.{List, [], _∷_, _++_}
 use mathlib.Core.Option.{some, none}
 use mathlib.Core.Path.{_≡_, refl, sym, ap, ap₂, _∙_, subst}
-use Prim.Native.Nat.{ℕ, _*_, _≤_, _<_}
+use Prim.Native.Nat.{ℕ, _*_, _≤_}
 use native.Mathlib.Omega.{arith}
 use borrow.Author.Tests.{leb-true}
 use lib.Dec.{leb}
@@ -16,8 +16,8 @@ use Rattle.forwarding.specs.Verdict.{Verdict, isolated, reached, unitsIn}
 use Rattle.forwarding.proofs.Stops.{reached-long}
 use Rattle.forwarding.proofs.Budget.{ifWithin, verdict-within}
 use Rattle.model.specs.Model.{fabricOf, fabricIn}
-use Rattle.backtrace.specs.Play.{Played, reachedWords}
-use Rattle.backtrace.proofs.VerdictPlayed.{VerdictPlayed, verdict-played}
+use Rattle.events.specs.Play.{Played, reachedWords}
+use Rattle.events.proofs.VerdictPlayed.{VerdictPlayed, verdict-played}
 use Rattle.fabric.specs.Questions.{Query, limitRight, askedTidy, roomForAnswer, orRefused}
 use Rattle.fabric.specs.Tracing.{begin, passOf}
 use Rattle.fabric.specs.Verdict.{verdictWords, verdictAsked}

@@ -19,9 +19,9 @@ use Rattle.forwarding.specs.BackTrace.{back, beaters}
 use Rattle.forwarding.specs.Trace.{Event, unit, find, carved, fromPort, atInPort, takenUp, stop, trace, units, finds}
 use Rattle.forwarding.specs.Verdict.{endsWithin}
 use Rattle.forwarding.proofs.Budget.{ends-within}
-use Rattle.backtrace.specs.Play.{World, Played, andThen, unitMade, makeUnit, step, play, findWords, tooMany, countedOn, counted, listWords}
-use Rattle.backtrace.proofs.ListPlayed.{counted-all, counted-stops, listed-all}
 use Rattle.model.specs.Model.{fabricOf, fabricIn}
+use Rattle.events.specs.Play.{World, Played, andThen, unitMade, makeUnit, step, play, findWords, tooMany, countedOn, counted, listWords}
+use Rattle.events.proofs.ListPlayed.{counted-all, counted-stops, listed-all}
 use Rattle.fabric.specs.Tracing.{begin, playedThen, passOf}
 use Rattle.fabric.specs.declared.trace.Passed.{Passed}
 

@@ -1,21 +1,21 @@
 -- What the tables of an accepted file say of its fabric. Assumes nothing.
-use mathlib.Core.Bool.{Bool, true, false, true≢false}
+use mathlib.Core.Bool.{true, false}
 use mathlib.Core.List.{List}
-use mathlib.Core.Path.{_≡_, refl, sym, ap, _∙_}
+use mathlib.Core.Path.{_≡_, sym, ap, _∙_}
 use Prim.Native.Nat.{ℕ, suc, _≤_, _<_}
 use native.Mathlib.Omega.{arith}
 use lib.Dec.{ltb}
 use lib.ListN.{getD}
 use Rattle.headers.proofs.Booleans.{refuted}
 use Rattle.records.specs.Records.{edgeGroup, portOfEdge, fromOfLink, toOfLink, recent, edgeBytes}
-use Rattle.file.specs.Accepted.{Accepted}
-use Rattle.questions.specs.Tables.{Numbers}
 use Rattle.records.specs.declared.Shape.{Shape}
-use Rattle.file.proofs.Accepted.{edge-port-low}
+use Rattle.questions.specs.Tables.{Numbers}
 use Rattle.questions.proofs.Lists.{number-has}
+use Rattle.file.specs.Accepted.{Accepted}
+use Rattle.file.proofs.Accepted.{edge-port-low}
 use Rattle.forwarding.specs.Fabric as Forwarding
 use Rattle.model.specs.Model.{under, edgeAt, linkBeginning, fabricOf, fabricIn}
-use Rattle.model.proofs.Shapes.{fabric-is, EdgeThere, edge-there}
+use Rattle.model.proofs.Shapes.{fabric-is, edge-there}
 
 module _ (f : List ℕ) (s : Shape) (ok : Accepted f s) where
   -- past the last port there is no edge

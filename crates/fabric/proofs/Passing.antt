@@ -1,18 +1,18 @@
 -- One pass of the back-trace: what `stop` needs at the target with the limit, and that what it leaves is the pass. Assumes nothing.
 use mathlib.Core.List.{List, [], _∷_}
-use mathlib.Core.Path.{_≡_, sym, ap, ap₂, _∙_}
+use mathlib.Core.Path.{_≡_, ap, _∙_}
 use Prim.Native.Nat.{ℕ, _-_, _≤_, _<_}
 use native.Mathlib.Omega.{arith}
 use lib.ListN.{length, getD, replicate}
 use Rattle.headers.specs.Sets.{Set}
-use Rattle.file.specs.Accepted.{Accepted}
 use Rattle.records.specs.declared.Shape.{Shape}
+use Rattle.file.specs.Accepted.{Accepted}
 use Rattle.forwarding.specs.Trace.{Event, stop, trace}
 use Rattle.model.specs.Model.{fabricIn, entriesAt}
 use Rattle.index.specs.Index.{Index}
-use Rattle.backtrace.specs.Play.{play}
-use Rattle.backtrace.specs.Asked.{byMode, foundBy}
-use Rattle.backtrace.specs.Cycle.{Tracing, Traced, IsPlace, eventsAt}
+use Rattle.events.specs.Play.{play}
+use Rattle.events.specs.Asked.{byMode, foundBy}
+use Rattle.backtrace.specs.Cycle.{Tracing, Traced, eventsAt}
 use Rattle.backtrace.proofs.Places.{port-events}
 use Rattle.fabric.specs.Tracing.{begin, playedThen, passOf}
 

@@ -10,10 +10,10 @@ use lib.ListN.{getD}
 use Rattle.headers.specs.Bits.{Words}
 use Rattle.headers.specs.Sets.{Header, Set, contains, WellFormed}
 use Rattle.answer.specs.Answer.{Outcome, refused, answered}
-use Rattle.questions.specs.Questions.{accepted, Question, firstNo}
-use Rattle.file.specs.Accepted.{Accepted}
 use Rattle.records.specs.declared.Shape.{Shape}
+use Rattle.questions.specs.Questions.{accepted, Question, firstNo}
 use Rattle.questions.specs.declared.Read.the-variants.{No}
+use Rattle.file.specs.Accepted.{Accepted}
 use Rattle.forwarding.specs.Fabric.{Fabric, inPortOf, applied}
 use Rattle.forwarding.specs.Run.{takes, run, entriesTaken, arrives, Arrives}
 use Rattle.forwarding.specs.BackTrace.{backTraced}

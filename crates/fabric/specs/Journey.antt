@@ -1,5 +1,5 @@
 -- A packet as the code carries it: its entries in an array, in travelling order. Assumes nothing.
-use mathlib.Core.List.{List, [], _∷_, _++_}
+use mathlib.Core.List.{List, _∷_, _++_}
 use mathlib.Core.Path.{_≡_}
 use Prim.Native.Nat.{ℕ, _<_}
 use Rattle.answer.specs.Answer.{sixteen}

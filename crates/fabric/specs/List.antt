@@ -8,9 +8,9 @@ use Rattle.questions.specs.Questions.{accepted, Question, _asks_, firstNo}
 use Rattle.questions.specs.declared.Read.{Read}
 use Rattle.questions.specs.declared.Read.the-variants.{Fabric, No}
 use Rattle.forwarding.specs.Fabric as Forwarding
-use Rattle.forwarding.specs.Trace.{Find, Event, trace, units, finds}
-use Rattle.backtrace.specs.Play.{listWords}
+use Rattle.forwarding.specs.Trace.{Event, trace, units, finds}
 use Rattle.model.specs.Model.{fabricIn}
+use Rattle.events.specs.Play.{listWords}
 use Rattle.fabric.specs.Questions.{Query, limitRight, askedTidy, orRefused}
 
 -- the events of the back-trace that a query asks for, were there no budget

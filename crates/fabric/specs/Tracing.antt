@@ -1,12 +1,11 @@
 -- What one pass of the back-trace promises. Assumes nothing.
 use mathlib.Core.List.{List}
-use mathlib.Core.Path.{_≡_}
-use Prim.Native.Nat.{ℕ, _≤_}
+use Prim.Native.Nat.{ℕ}
 use Rattle.headers.specs.Sets.{Set}
 use Rattle.forwarding.specs.Trace.{trace}
 use Rattle.model.specs.Model.{fabricIn}
-use Rattle.backtrace.specs.Play.{World, Played, play}
-use Rattle.backtrace.specs.Asked.{byMode}
+use Rattle.events.specs.Play.{World, Played, play}
+use Rattle.events.specs.Asked.{byMode}
 use Rattle.fabric.specs.declared.trace.Passed.{Passed}
 
 -- nothing is made or counted yet

@@ -9,8 +9,8 @@ use Rattle.questions.specs.declared.Read.{Read}
 use Rattle.questions.specs.declared.Read.the-variants.{Fabric, No}
 use Rattle.forwarding.specs.Fabric as Forwarding
 use Rattle.forwarding.specs.Verdict.{Verdict, isolated, reached, unitsIn, verdictOn}
-use Rattle.backtrace.specs.Play.{reachedWords}
 use Rattle.model.specs.Model.{fabricIn}
+use Rattle.events.specs.Play.{reachedWords}
 use Rattle.fabric.specs.Questions.{Query, limitRight, askedTidy, roomForAnswer, orRefused}
 
 -- "0 isolated or 1 reached; units made; .. Isolated has 0 from word 2 on."

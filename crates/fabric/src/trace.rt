@@ -6,11 +6,11 @@ ghost use mathlib.Core.Bool.{true};
 ghost use Prim.Native.Nat.{_≤_};
 ghost use lib.ListN.{length};
 ghost use Rattle.headers.specs.Forms.{setOf};
-ghost use Rattle.file.specs.Accepted.{Accepted};
 ghost use Rattle.records.specs.Records.{portOfEdge, recent};
 ghost use Rattle.questions.specs.Tables.{Numbers};
-ghost use Rattle.index.specs.Index.{Index};
+ghost use Rattle.file.specs.Accepted.{Accepted};
 ghost use Rattle.model.specs.Model.{fabricIn, entriesAt};
+ghost use Rattle.index.specs.Index.{Index};
 ghost use Rattle.fabric.specs.Tracing.{playedThen, passOf};
 
 // How a pass ended (0 through, 1 the budget was used, 2 the verdict stops, 3 no room), the units made and the words of the finds.

@@ -10,14 +10,14 @@ use borrow.Author.Tests.{eqb-true}
 use Rattle.headers.specs.Sets.{tidy}
 use Rattle.records.specs.Words.{wordAt, wordsIn, bytesFrom, portOf}
 use Rattle.records.specs.Records.{headerWords, admittedAt, edgeWords, matchAt, rewriteAt, entryWords, edgePort, entryIn, entryOut, placeOf, portOfEdge, fromOfLink, toOfLink, inOfEntry, edgeBytes, entryBytes, recent}
+use Rattle.records.specs.declared.Shape.{Shape}
+use Rattle.records.proofs.Words.{words-from-fit, part-long, part-word, part-set}
 use Rattle.questions.specs.Questions.{times, sized}
 use Rattle.questions.specs.Reading.{passedAt}
+use Rattle.questions.proofs.Lists.{none-has, rising, times-within, number-is}
 use Rattle.file.specs.Tables.{Indexed}
 use Rattle.file.specs.Accepted.{Accepted, Edge, Entry}
-use Rattle.records.specs.declared.Shape.{Shape}
 use Rattle.file.proofs.Chains.{parts}
-use Rattle.records.proofs.Words.{words-from-fit, part-long, part-word, part-set}
-use Rattle.questions.proofs.Lists.{none-has, rising, times-within, number-is}
 use Rattle.file.proofs.Yes.{yeses, EdgeIs, edge-is, LinkIs, link-is, EntryIs, entry-is}
 use Rattle.file.proofs.Sound.{Sound, in-order, accepted-exactly}
 

@@ -10,14 +10,14 @@ use native.Mathlib.Omega.{arith}
 use borrow.Author.Count.{below-more}
 use borrow.Author.Tests.{ne-eqb}
 use Rattle.records.specs.Words.{wordAt, wordsIn, kindOf}
-use Rattle.questions.specs.Questions.{passed, shape, records, accepted, sized, started}
 use Rattle.records.specs.Records.{placeOf}
-use Rattle.questions.specs.Reading.{lastKind, passedAt, askedAt}
-use Rattle.file.specs.Reading.{rest}
 use Rattle.records.specs.declared.Shape.{Shape}
+use Rattle.questions.specs.Questions.{passed, shape, records, accepted, sized, started}
+use Rattle.questions.specs.Reading.{lastKind, passedAt, askedAt}
 use Rattle.questions.specs.declared.Read.{Read}
 use Rattle.questions.specs.declared.Read.the-variants.{Fabric}
 use Rattle.questions.proofs.Lists.{recent-long}
+use Rattle.file.specs.Reading.{rest}
 use Rattle.file.proofs.Yes.{yeses, Ordered, ordered}
 use Rattle.file.proofs.Steps.{edge-passed, link-passed, entry-passed, next-edge, next-link, next-entry, ends-there}
 use Rattle.file.proofs.Whole.{no-entry-yet, no-link-yet, from-start}

@@ -11,10 +11,10 @@ use Rattle.records.specs.Words.{wordAt, wordsIn, kindOf}
 use Rattle.records.specs.Records.{edgeWords, entryWords, placeOf}
 use Rattle.questions.specs.Questions.{pick, orElse, Passed, passed, shape, records}
 use Rattle.questions.specs.Reading.{passedAt, askedAt}
-use Rattle.file.specs.Reading.{rest}
 use Rattle.questions.specs.declared.Read.{Read}
 use Rattle.questions.specs.declared.Read.the-variants.{Fabric}
 use Rattle.questions.proofs.Lists.{recent-more, recent-long}
+use Rattle.file.specs.Reading.{rest}
 
 -- ---- one more of a kind
 

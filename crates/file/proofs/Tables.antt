@@ -10,11 +10,11 @@ use lib.Dec.{eqb}
 use lib.ListN.{getD, set, length-set, replicate, length-replicate, getD-replicate}
 use lib.Seq.{getD-set-same, getD-set-other}
 use borrow.Author.Tests.{eq-eqb, ne-eqb, eqb-true}
-use Rattle.questions.specs.Questions.{pick, times}
 use Rattle.records.specs.Records.{recent}
+use Rattle.questions.specs.Questions.{pick, times}
 use Rattle.questions.specs.Tables.{Table, number, Numbers, Counts}
-use Rattle.file.specs.Tables.{Empty}
 use Rattle.questions.proofs.Lists.{recent-more, recent-long, number-has, number-none}
+use Rattle.file.specs.Tables.{Empty}
 
 -- a table of zeros holds what is 0 at every port
 pub zeros : (g : ℕ → ℕ) → ((p : ℕ) → g p ≡ 0) → Table g (replicate 4096 0)

@@ -1,23 +1,23 @@
 -- The reader as a whole: the end, where no other record can stand, and questions 1 and 2. Assumes nothing.
-use mathlib.Core.Bool.{Bool, true, false, not, _&&_, true≢false}
+use mathlib.Core.Bool.{Bool, true, false, not, true≢false}
 use mathlib.Core.List.{List, [], _∷_}
 use mathlib.Core.Path.{_≡_, refl, sym, ap, _∙_}
-use Prim.Native.Nat.{ℕ, _+_, _/_, _%_, _≤_, _<_}
+use Prim.Native.Nat.{ℕ, _+_, _%_, _≤_, _<_}
 use native.Mathlib.Omega.{arith}
 use lib.Dec.{ltb, leb, eqb}
 use lib.ListN.{length}
 use borrow.Author.Tests.{lt-ltb, le-leb, ne-eqb, ltb-false, leb-true, eqb-true, not-true, not-false}
 use Rattle.records.specs.Words.{wordAt, wordsIn, kindOf, bits}
-use Rattle.questions.specs.Questions.{pick, orElse, asked, inOrder, portsRight, setsTidy, linkFree, withinLimits, shape, records, afterStart, accepted, sized, started}
 use Rattle.records.specs.Records.{placeOf}
+use Rattle.records.proofs.Words.{word-fits}
+use Rattle.questions.specs.Questions.{pick, orElse, asked, inOrder, portsRight, setsTidy, linkFree, withinLimits, shape, records, afterStart, accepted, sized, started}
 use Rattle.questions.specs.Reading.{lastKind, passedAt, Bounded, askedAt, endsAt}
-use Rattle.file.specs.Reading.{rest, RunRead}
-use Rattle.file.specs.Tables.{Tabled, Indexed}
 use Rattle.questions.specs.declared.Read.{Read}
 use Rattle.questions.specs.declared.Read.the-variants.{Fabric, No}
-use Rattle.file.proofs.Chains.{parts}
-use Rattle.records.proofs.Words.{word-fits}
 use Rattle.questions.proofs.Asked.{up-to-entries}
+use Rattle.file.specs.Reading.{rest, RunRead}
+use Rattle.file.specs.Tables.{Tabled, Indexed}
+use Rattle.file.proofs.Chains.{parts}
 use Rattle.file.proofs.Yes.{Ordered, ordered}
 use Rattle.file.proofs.Steps.{stops, ends-there}
 

@@ -7,8 +7,8 @@ use Prim.Native.Nat.{ℕ, _*_, _≤_, _<_}
 use lib.ListN.{length}
 use Rattle.headers.specs.Sets.{WellFormed, Written, tidy, writes}
 use Rattle.records.specs.Records.{headerWords, edgeWords, entryWords, edgePort, edgeAdmitted, entryIn, entryOut, entryMatch, entryRewrite}
-use Rattle.questions.specs.Questions.{accepted}
 use Rattle.records.specs.declared.Shape.{Shape}
+use Rattle.questions.specs.Questions.{accepted}
 use Rattle.questions.specs.declared.Read.the-variants.{Fabric}
 
 -- the file is accepted with this shape

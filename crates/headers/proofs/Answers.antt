@@ -1,7 +1,7 @@
 -- The answer 'empty or a set' from the test that decides it. Assumes nothing.
 use mathlib.Core.Bool.{Bool, true, false, cond}
-use mathlib.Core.Option.{Option, some, none}
-use mathlib.Core.Path.{_≡_, refl, sym, ap, _∙_}
+use mathlib.Core.Option.{some, none}
+use mathlib.Core.Path.{_≡_, sym, ap, _∙_}
 use Rattle.headers.specs.Sets.{Set, allWild}
 use Rattle.headers.specs.Forms.{formOf, maybeOf}
 use Rattle.headers.specs.declared.HeaderSet.{HeaderSet}

@@ -1,6 +1,6 @@
 -- Booleans: what a conjunction says, and identities that hold at every value, found by computing all of them. Assumes nothing.
-use mathlib.Core.Bool.{Bool, true, false, not, _&&_, true≢false, false≢true}
-use mathlib.Core.Path.{_≡_, refl, sym, _∙_}
+use mathlib.Core.Bool.{Bool, true, false, not, _&&_, false≢true}
+use mathlib.Core.Path.{_≡_, refl, sym}
 use lib.Dec.{T}
 
 infixr 3 _⇒_

@@ -1,21 +1,21 @@
 -- Carving is exact, part by part and as a whole, for any number of words. Assumes nothing.
 use mathlib.Core.Bool.{Bool, true, false, not, _&&_, _||_, cond, true≢false, false≢true, or-false}
 use mathlib.Core.List.{List, [], _∷_}
-use mathlib.Core.Option.{Option, some, none}
+use mathlib.Core.Option.{some, none}
 use mathlib.Core.Path.{_≡_, refl, sym, ap, ap₂, _∙_, subst}
-use Prim.Native.Nat.{ℕ, zero, suc, _+_, _-_, _*_, _^_, _≤_, _<_}
+use Prim.Native.Nat.{ℕ, zero, suc, _+_, _*_, _<_}
 use native.Mathlib.Decide.{ℕ-discrete}
 use native.Mathlib.Omega.{arith}
 use borrow.Author.Tests.{eq-eqb, ne-eqb}
 use lib.Dec.{eqb}
-use Rattle.headers.specs.Bits.{word, words, every, Words, bitAt, positions, keepIf, those, setBits, single, firstOf, firstSet, noBit}
+use Rattle.headers.specs.Bits.{Words, bitAt, positions, keepIf, those, setBits, single, firstOf, firstSet, noBit}
 use Rattle.headers.specs.Sets.{Header, Set, contains, overlaps}
 use Rattle.headers.specs.Carving.{free, opposite, turned, taking, like, unlike, partsAt, parts, carve, Cut, cutAt, nextCut, one, holders}
-use Rattle.headers.proofs.Booleans.{_⇒_, _==_, and-fst, and-snd, same-true, true-same, implied, implies, always}
+use Rattle.headers.proofs.Booleans.{_⇒_, _==_, and-fst, and-snd, implied, implies, always}
 use Rattle.headers.proofs.Positions.{every-at, every-of}
 use Rattle.headers.proofs.Members.{contains-bits, member-exactly}
 use Rattle.headers.proofs.Intersection.{overlaps-bits, common-overlaps}
-use Rattle.headers.proofs.SetBits.{First, first-of, those-same, those-later, no-bit-none, none-no-bit}
+use Rattle.headers.proofs.SetBits.{first-of, those-same, those-later, no-bit-none}
 use Rattle.headers.proofs.Fixed.{free-bit, free-fits, opposite-bit, fixed-care, fixed-care-bit, fixed-value-bit, fixed-exact, taking-fixed}
 
 module _ (n : ℕ) (b : Set) (cb : Words n (b .care)) (vb : Words n (b .value)) where

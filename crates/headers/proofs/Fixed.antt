@@ -1,15 +1,14 @@
 -- A set with one more bit fixed: its members, and that it stays well-formed. For any number of words. Assumes nothing.
-use mathlib.Core.Bool.{Bool, true, false, not, _&&_, _||_, true≢false, false≢true, and-true}
+use mathlib.Core.Bool.{Bool, true, false, not, _&&_, _||_}
 use mathlib.Core.List.{List}
 use mathlib.Core.Path.{_≡_, refl, sym, ap, ap₂, _∙_}
-use Prim.Native.Nat.{ℕ, _-_, _*_, _/_, _%_, _^_, _<_}
-use native.Mathlib.Decide.{ℕ-discrete}
+use Prim.Native.Nat.{ℕ, _*_, _/_, _^_, _<_}
 use native.Mathlib.Nat.{lt-of-le-of-lt}
 use native.Mathlib.Omega.{arith}
 use borrow.Author.Tests.{eq-eqb, eqb-true}
-use lib.Bits.{bitAnd, bitOr, and-le-l, or-lt}
+use lib.Bits.{and-le-l, or-lt}
 use lib.Dec.{eqb}
-use Rattle.headers.specs.Bits.{word, words, every, Words, complement, bit, bitAt, single}
+use Rattle.headers.specs.Bits.{word, every, Words, complement, bitAt, single}
 use Rattle.headers.specs.Sets.{Header, Set, overwrite, contains, WellFormed}
 use Rattle.headers.specs.Carving.{free, fixed, opposite, taking}
 use Rattle.headers.proofs.Booleans.{_⇒_, _==_, both-ways, same-true, implied, implies, always}

@@ -1,13 +1,13 @@
 -- Intersection is exact, for any number of words. Assumes nothing.
-use mathlib.Core.Bool.{Bool, true, false, not, _&&_, _||_, cond, true≢false}
+use mathlib.Core.Bool.{Bool, true, false, _&&_, _||_, cond, true≢false}
 use mathlib.Core.Logic.{_↔_}
-use mathlib.Core.Option.{Option, some, none}
+use mathlib.Core.Option.{some, none}
 use mathlib.Core.Path.{_≡_, refl, sym, ap, ap₂, _∙_, subst}
-use Prim.Native.Nat.{ℕ, _-_, _*_, _/_, _%_, _^_, _<_}
+use Prim.Native.Nat.{ℕ, _*_, _<_}
 use native.Mathlib.Nat.{lt-of-le-of-lt}
 use native.Mathlib.Omega.{arith}
-use lib.Bits.{bitAnd, bitOr, and-le-l, or-lt}
-use Rattle.headers.specs.Bits.{word, words, every, Words, bit, bitAt}
+use lib.Bits.{bitAnd, and-le-l, or-lt}
+use Rattle.headers.specs.Bits.{word, every, Words, bitAt}
 use Rattle.headers.specs.Sets.{Header, Set, contains, WellFormed, overlaps, joined, intersection, among}
 use Rattle.headers.proofs.Booleans.{_⇒_, _==_, and-fst, and-snd, refuted, same-true, implied, always}
 use Rattle.headers.proofs.BitLaws.{bit-and, bit-or}

@@ -3,16 +3,16 @@ use mathlib.Core.Bool.{Bool, true, false, not, _&&_, _||_, true≢false, false�
 use mathlib.Core.List.{List}
 use mathlib.Core.Logic.{_↔_}
 use mathlib.Core.Option.{Option, some, none}
-use mathlib.Core.Path.{_≡_, refl, sym, ap, ap₂, _∙_, subst}
-use Prim.Native.Nat.{ℕ, zero, suc, _+_, _-_, _*_, _/_, _%_, _^_, _≤_, _<_}
+use mathlib.Core.Path.{_≡_, refl, sym, ap, ap₂, _∙_}
+use Prim.Native.Nat.{ℕ, _-_, _*_, _/_, _%_, _<_}
 use native.Mathlib.Nat.{lt-of-le-of-lt}
 use native.Mathlib.Omega.{arith}
-use lib.Bits.{bitAnd, bitOr, and-le-l, and-le-r}
+use lib.Bits.{bitAnd, and-le-l, and-le-r}
 use lib.Dec.{eqb}
 use borrow.Author.Tests.{eq-eqb}
-use Rattle.headers.specs.Bits.{word, words, every, Words, complement, bit, bitAt, single}
+use Rattle.headers.specs.Bits.{word, words, every, Words, complement, bitAt, single}
 use Rattle.headers.specs.Sets.{Header, Set, Rewrite, contains, tidy, WellFormed, Written, allWild, among, rewritten, lowest, Lower}
-use Rattle.headers.proofs.Booleans.{_⇒_, _==_, and-fst, both-ways, refuted, same-true, true-same, implied, implies, always}
+use Rattle.headers.proofs.Booleans.{_⇒_, _==_, and-fst, both-ways, same-true, true-same, implied, implies}
 use Rattle.headers.proofs.BitLaws.{bit-and, bit-or, bit-zero}
 use Rattle.headers.proofs.Positions.{at, every-at, every-of, every-same, words-fit, bit-of-words, complement-at, words-ext, same-on-bits, zero-bits, single-bit, single-fits}
 

@@ -1,22 +1,22 @@
 -- From words to positions: a test on every word is a test on every position, and lists of words with the same bits are equal. Assumes nothing.
-use mathlib.Core.Bool.{Bool, true, false, not, _&&_, _||_, cond, true≢false, false≢true, and-assoc, and-comm, and-false, and-true}
-use mathlib.Core.List.{List, [], _∷_}
+use mathlib.Core.Bool.{Bool, true, false, not, _&&_, cond, false≢true, and-false, and-true}
+use mathlib.Core.List.{List}
 use mathlib.Core.Path.{_≡_, refl, sym, ap, ap₂, _∙_}
-use Prim.Native.Nat.{ℕ, zero, suc, _+_, _-_, _*_, _/_, _%_, _^_, _≤_, _<_}
+use Prim.Native.Nat.{ℕ, zero, suc, _+_, _-_, _*_, _/_, _%_, _^_, _<_}
 use native.Mathlib.Decide.{ℕ-discrete, decLt}
 use native.Mathlib.Omega.{arith}
 use borrow.Author.Tests.{eq-eqb, ne-eqb, eqb-true, ltb-true}
-use lib.Bits.{bitAnd, bitOr}
+use lib.Bits.{bitAnd}
 use mir.Syntax.{w32}
 use mir.Val.{Fits}
 use lib.Dec.{eqb, ltb}
-use lib.ListN.{length, getD}
+use lib.ListN.{length}
 use lib.Pow.{pow-lt}
 use lib.Seq.{ext-getD}
 use Rattle.headers.specs.Bits.{word, words, every, Words, complement, bit, bitAt, single}
 use Rattle.headers.specs.Sets.{sameOn}
-use Rattle.headers.proofs.Booleans.{_⇒_, _==_, and-fst, and-snd, both-ways, same-true, true-same, implied, implies}
-use Rattle.headers.proofs.BitLaws.{bit-and, bit-or, bit-not, bit-ext, bit-zero, bit-single, bit-high}
+use Rattle.headers.proofs.Booleans.{_⇒_, _==_, and-fst, and-snd, both-ways, same-true, true-same, implies}
+use Rattle.headers.proofs.BitLaws.{bit-and, bit-not, bit-ext, bit-zero, bit-single, bit-high}
 
 -- ---- a test on every number below n
 

@@ -1,17 +1,15 @@
 -- The set bits of a list of words, from first to last: the first of them, and what is left without it. Assumes nothing.
-use mathlib.Core.Bool.{Bool, true, false, not, _&&_, cond, true≢false, false≢true}
+use mathlib.Core.Bool.{Bool, true, false, not, false≢true}
 use mathlib.Core.List.{List, [], _∷_}
-use mathlib.Core.Path.{_≡_, refl, sym, ap, _∙_, subst}
+use mathlib.Core.Path.{_≡_, refl, sym, ap, _∙_}
 use Prim.Native.Nat.{ℕ, zero, suc, _+_, _-_, _*_, _/_, _%_, _^_, _≤_, _<_}
 use native.Mathlib.Decide.{ℕ-discrete, decLt}
-use native.Mathlib.Nat.{zero-add, add-suc}
 use native.Mathlib.Omega.{arith}
 use borrow.Author.Count.{below-more}
 use lib.Count.{leadingZeros, leading-top, leading-of-zero}
-use lib.Dec.{eqb}
-use Rattle.headers.specs.Bits.{word, words, every, Words, bit, bitAt, positions, keepIf, those, setBits, firstOf, firstSet, noBit}
+use Rattle.headers.specs.Bits.{word, Words, bit, bitAt, positions, keepIf, those, setBits, firstOf, firstSet, noBit}
 use Rattle.headers.proofs.BitLaws.{bit-top, bit-high, bit-zero}
-use Rattle.headers.proofs.Positions.{at, every-at, every-of, zero-bits}
+use Rattle.headers.proofs.Positions.{every-at, every-of, zero-bits}
 
 -- ---- those of some positions that pass a test
 

@@ -2,14 +2,14 @@
 use mathlib.Core.Bool.{Bool, true, false, not, _&&_, _||_, cond, true≢false}
 use mathlib.Core.Logic.{_↔_}
 use mathlib.Core.List.{List}
-use mathlib.Core.Option.{Option, some, none}
+use mathlib.Core.Option.{some, none}
 use mathlib.Core.Path.{_≡_, refl, sym, ap, ap₂, _∙_, subst}
-use Prim.Native.Nat.{ℕ, _-_, _*_, _/_, _%_, _^_, _<_}
+use Prim.Native.Nat.{ℕ, _*_, _/_, _<_}
 use native.Mathlib.Nat.{lt-of-le-of-lt}
 use native.Mathlib.Omega.{arith}
 use lib.Bits.{bitAnd, and-le-l}
-use Rattle.headers.specs.Bits.{word, words, every, Words, complement, bit, bitAt}
-use Rattle.headers.specs.Sets.{Header, Set, Rewrite, contains, WellFormed, Written, overlaps, among, rewritten, writes, widened, undone, noRewrite}
+use Rattle.headers.specs.Bits.{word, words, Words, complement, bitAt}
+use Rattle.headers.specs.Sets.{Header, Set, Rewrite, contains, WellFormed, overlaps, among, rewritten, writes, widened, undone, noRewrite}
 use Rattle.headers.proofs.Booleans.{_⇒_, _==_, refuted, same-true, implied, always}
 use Rattle.headers.proofs.BitLaws.{bit-and}
 use Rattle.headers.proofs.Positions.{at, every-at, every-of, every-same, words-fit, bit-of-words, complement-at, words-ext}

@@ -1,11 +1,11 @@
 -- E8, E9 and E10 of document 01, the carving of E2, and where the published method misleads; each computed. Assumes nothing.
-use mathlib.Core.Bool.{Bool, true, false, _||_}
-use mathlib.Core.List.{List, [], _∷_}
+use mathlib.Core.Bool.{true, false}
+use mathlib.Core.List.{[], _∷_}
 use mathlib.Core.Option.{Option, some, none}
 use mathlib.Core.Path.{_≡_, refl}
 use Prim.Native.Nat.{ℕ}
 use Rattle.headers.specs.Bits.{bit, bitAt, positions, those, setBits, single}
-use Rattle.headers.specs.Sets.{Header, Set, Rewrite, allWild, noRewrite, contains, intersection, rewritten, undone}
+use Rattle.headers.specs.Sets.{Header, Set, Rewrite, allWild, intersection, undone}
 use Rattle.headers.specs.Carving.{partsAt, parts, carve, within}
 
 abbrev pub header : ℕ → ℕ → ℕ → ℕ → Header

@@ -1,9 +1,6 @@
 -- The structs of the code as sets, rewrites and answers over four words. Assumes nothing.
-use mathlib.Core.List.{List}
 use mathlib.Core.Option.{Option, some, none}
 use mathlib.Core.Bool.{true, false}
-use Prim.Native.Nat.{ℕ}
-use Rattle.headers.specs.Bits.{words}
 use Rattle.headers.specs.Sets.{Set, Rewrite, allWild}
 use Rattle.headers.specs.Carving.{Cut}
 use Rattle.headers.specs.declared.HeaderSet.{HeaderSet}

@@ -2,7 +2,7 @@
 // Document 01, "Header sets". What each call means is in specs/Sets.antt and specs/Carving.antt, for any number of words;
 // what follows from it is in proofs/: Members, Intersection, Undoing, Carved, Parts.
 ghost use mathlib.Core.Path.{_≡_};
-ghost use mathlib.Core.Bool.{_&&_, cond};
+ghost use mathlib.Core.Bool.{cond};
 ghost use Prim.Native.Nat.{_-_, _/_, _%_, _^_, _≤_};
 ghost use lib.Count.{leadingZeros};
 ghost use lib.Dec.{eqb};

@@ -7,10 +7,10 @@ use native.Mathlib.Omega.{arith}
 use borrow.Author.Tests.{lt-ltb}
 use lib.Dec.{ltb}
 use lib.ListN.{getD}
-use Rattle.file.specs.Accepted.{Accepted}
 use Rattle.records.specs.Records.{portOfEdge, fromOfLink, toOfLink, recent}
-use Rattle.questions.specs.Tables.{Numbers}
 use Rattle.records.specs.declared.Shape.{Shape}
+use Rattle.questions.specs.Tables.{Numbers}
+use Rattle.file.specs.Accepted.{Accepted}
 use Rattle.file.proofs.Accepted.{few-edges}
 use Rattle.file.proofs.Tables.{found}
 use Rattle.model.specs.Model.{under, edgeAt, linkEnding, fabricOf}

@@ -6,9 +6,9 @@ use native.Mathlib.Omega.{arith}
 use borrow.Author.Count.{below-more}
 use lib.ListN.{getD, set, length-set, replicate, length-replicate, getD-replicate}
 use lib.Seq.{getD-set-same, getD-set-other}
-use Rattle.file.specs.Accepted.{Accepted}
 use Rattle.records.specs.Records.{entryIn, entryOut}
 use Rattle.records.specs.declared.Shape.{Shape}
+use Rattle.file.specs.Accepted.{Accepted}
 use Rattle.file.proofs.Accepted.{few-entries}
 use Rattle.forwarding.specs.Fabric.{inPortOf, outPortOf}
 use Rattle.model.specs.Model.{fabricIn}

@@ -5,7 +5,6 @@ use mathlib.Core.List.{List}
 use mathlib.Core.Path.{_≡_}
 use Prim.Native.Nat.{ℕ, _+_, _<_}
 use lib.ListN.{length, getD}
-use Rattle.forwarding.specs.Fabric as Forwarding
 use Rattle.forwarding.specs.Fabric.{inPortOf, outPortOf}
 use Rattle.model.specs.Model.{fabricIn, shapeIn, edgeAt}
 use Rattle.index.specs.Chains.{Chain}

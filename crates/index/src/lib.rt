@@ -1,10 +1,11 @@
 // The index of an accepted file, made once a call: see specs/Index.antt.
 use records::Shape;
 ghost use mathlib.Core.Path.{_≡_};
-ghost use Prim.Native.Nat.{suc, _-_, _≤_, _<_};
-ghost use Rattle.file.specs.Accepted.{Accepted};
+ghost use Prim.Native.Nat.{suc, _+_, _-_, _≤_, _<_};
+ghost use lib.ListN.{getD};
 ghost use Rattle.records.specs.Records.{portOfEdge, fromOfLink, toOfLink, recent};
 ghost use Rattle.questions.specs.Tables.{Numbers};
+ghost use Rattle.file.specs.Accepted.{Accepted};
 ghost use Rattle.index.specs.Index.{Index, placeAt};
 ghost use Rattle.index.specs.Building.{Placed, Partly, pushed};
 
@@ -107,4 +108,53 @@ pub fn build(file: &[u8], shape: Shape, edge_of: &[u16; 4096], ends: &[u16; 4096
     places(file, shape, edge_of, ends, &mut index);
     chains(file, shape, &mut index);
     index
+}
+
+// ---- reading the index
+
+// What is read behind a reference is known to fit its type once it is a parameter.
+fn wide(v: u16) -> usize
+    ensures { λ r. ⌜ r ≡ v ⌝ }
+{
+    v as usize
+}
+
+// Where a part at this in-port comes from.
+pub fn place_at(index: &[u16; 13312], port: usize) -> usize
+    requires { ⌜ port < 4096 ⌝ }
+    ensures { λ r. ⌜ r ≡ getD (now (index .entry)) port 0 ⌝ }
+{
+    wide(index[port])
+}
+
+// The first entry with this out-port.
+pub fn first_out(index: &[u16; 13312], port: usize) -> usize
+    requires { ⌜ port < 4096 ⌝ }
+    ensures { λ r. ⌜ r ≡ getD (now (index .entry)) (4096 + port) 0 ⌝ }
+{
+    wide(index[4096 + port])
+}
+
+// The first entry with this in-port.
+pub fn first_in(index: &[u16; 13312], port: usize) -> usize
+    requires { ⌜ port < 4096 ⌝ }
+    ensures { λ r. ⌜ r ≡ getD (now (index .entry)) (8192 + port) 0 ⌝ }
+{
+    wide(index[8192 + port])
+}
+
+// The next entry with the out-port of entry e.
+pub fn next_out(index: &[u16; 13312], e: usize) -> usize
+    requires { ⌜ e < 512 ⌝ }
+    ensures { λ r. ⌜ r ≡ getD (now (index .entry)) (12288 + e) 0 ⌝ }
+{
+    wide(index[12288 + e])
+}
+
+// The next entry with the in-port of entry e.
+pub fn next_in(index: &[u16; 13312], e: usize) -> usize
+    requires { ⌜ e < 512 ⌝ }
+    ensures { λ r. ⌜ r ≡ getD (now (index .entry)) (12800 + e) 0 ⌝ }
+{
+    wide(index[12800 + e])
 }

@@ -1,17 +1,17 @@
 -- Whether an entry that was read is a candidate for a header, and what the search keeps then. Assumes nothing.
 use mathlib.Core.Bool.{Bool, true, false, _&&_, and-false}
 use mathlib.Core.List.{List}
-use mathlib.Core.Path.{_≡_, refl, sym, ap, ap₂, _∙_, subst}
-use Prim.Native.Nat.{ℕ, _+_, _≤_, _<_}
+use mathlib.Core.Path.{_≡_, sym, ap, ap₂, _∙_}
+use Prim.Native.Nat.{ℕ, _≤_, _<_}
 use native.Mathlib.Omega.{arith}
 use borrow.Author.Tests.{eq-eqb, ne-eqb}
 use lib.Dec.{eqb}
 use Rattle.headers.specs.Sets.{Header, Set, contains}
-use Rattle.records.specs.Records.{headerWords, entryIn, entryMatch, entryPriority}
-use Rattle.file.specs.Accepted.{Accepted}
+use Rattle.records.specs.Records.{headerWords, entryIn, entryMatch}
 use Rattle.records.specs.declared.Shape.{Shape}
-use Rattle.forwarding.specs.Fabric.{Fabric, inPortOf, priorityOf, holds}
-use Rattle.forwarding.proofs.Best.{candidate, Best, best-skip, best-keep, best-take}
+use Rattle.file.specs.Accepted.{Accepted}
+use Rattle.forwarding.specs.Fabric.{inPortOf, priorityOf, holds}
+use Rattle.forwarding.proofs.Best.{candidate, best-skip, best-keep, best-take}
 use Rattle.model.specs.Model.{fabricIn}
 use Rattle.model.specs.Taking.{Better}
 use Rattle.model.proofs.EntryRead.{EntryRead, words-are}

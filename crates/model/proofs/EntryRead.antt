@@ -1,13 +1,12 @@
 -- An entry's own bytes say what the fabric has of it. Assumes nothing.
 use mathlib.Core.List.{List}
-use mathlib.Core.Path.{_≡_, refl, sym, ap, _∙_, subst}
-use Prim.Native.Nat.{ℕ, _*_, _≤_, _<_}
-use lib.ListN.{length}
-use Rattle.records.specs.Records.{headerWords, entryWords, entryPriority, entryIn, entryOut, entryMatch, entryRewrite, entryBytes}
+use mathlib.Core.Path.{_≡_, sym, ap, _∙_, subst}
+use Prim.Native.Nat.{ℕ, _<_}
+use Rattle.records.specs.Records.{headerWords, entryPriority, entryIn, entryOut, entryMatch, entryRewrite, entryBytes}
+use Rattle.records.specs.declared.Shape.{Shape}
 use Rattle.file.specs.Accepted.{Accepted}
 use Rattle.file.specs.Accepted as Known
-use Rattle.records.specs.declared.Shape.{Shape}
-use Rattle.file.proofs.Accepted.{entry-of, few-entries}
+use Rattle.file.proofs.Accepted.{entry-of}
 use Rattle.forwarding.specs.Fabric as Forwarding
 use Rattle.forwarding.specs.Fabric.{inPortOf, outPortOf, priorityOf}
 use Rattle.model.specs.Model.{entryFrom, fabricOf, fabricIn}

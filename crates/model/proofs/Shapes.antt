@@ -1,20 +1,19 @@
 -- The fabric of an accepted file: its shape, its edges, links and entries as the file has them. Assumes nothing.
-use mathlib.Core.Bool.{Bool, true, false, true≢false}
+use mathlib.Core.Bool.{Bool, true}
 use mathlib.Core.List.{List}
-use mathlib.Core.Path.{_≡_, refl, sym, ap, _∙_}
+use mathlib.Core.Path.{_≡_, refl, ap, _∙_}
 use Prim.Native.Nat.{ℕ, zero, suc, _<_}
 use native.Mathlib.Omega.{arith}
 use lib.Dec.{ltb}
 use borrow.Author.Tests.{lt-ltb}
-use Rattle.records.specs.Records.{edgeGroup, edgeAdmitted, portOfEdge, fromOfLink, toOfLink, edgeBytes, entryBytes, recent}
-use Rattle.questions.specs.Questions.{pick, accepted}
-use Rattle.file.specs.Accepted.{Accepted}
-use Rattle.questions.specs.Tables.{number}
+use Rattle.records.specs.Records.{edgeGroup, edgeAdmitted, portOfEdge, edgeBytes, entryBytes, recent}
 use Rattle.records.specs.declared.Shape.{Shape}
-use Rattle.questions.proofs.Lists.{number-is, number-has, number-none}
+use Rattle.questions.specs.Questions.{pick}
+use Rattle.questions.specs.Tables.{number}
+use Rattle.questions.proofs.Lists.{number-is, number-has}
+use Rattle.file.specs.Accepted.{Accepted}
 use Rattle.file.proofs.Accepted.{edges-differ}
-use Rattle.forwarding.specs.Fabric as Forwarding
-use Rattle.model.specs.Model.{AFabric, shapeRead, shapeIn, under, entryFrom, noEntry, edgeAt, fabricOf, fabricIn}
+use Rattle.model.specs.Model.{shapeRead, shapeIn, under, entryFrom, noEntry, edgeAt, fabricOf, fabricIn}
 
 pub shape-is : (f : List ℕ) (s : Shape) → Accepted f s → shapeIn f ≡ s
 unfolding shapeIn

@@ -1,5 +1,5 @@
 -- The fabric of an accepted file is sound: what questions 4 to 6 give of it. Assumes nothing.
-use mathlib.Core.Bool.{Bool, true, false, true≢false, false≢true}
+use mathlib.Core.Bool.{Bool, true, false}
 use mathlib.Core.List.{List}
 use mathlib.Core.Path.{_≡_, refl, sym, ap, _∙_, subst}
 use Prim.Native.Nat.{ℕ, zero, suc, _≤_, _<_}
@@ -7,19 +7,19 @@ use native.Mathlib.Decide.{decLt}
 use native.Mathlib.Omega.{arith}
 use lib.Dec.{ltb}
 use borrow.Author.Tests.{lt-ltb, le-ltb}
-use Rattle.headers.specs.Sets.{Set, Rewrite, WellFormed, Written, allWild, noRewrite}
+use Rattle.headers.specs.Sets.{WellFormed, Written, allWild}
 use Rattle.headers.proofs.Members.{all-wild-well-formed, no-bits}
 use Rattle.records.specs.Records.{headerWords, edgeAdmitted, portOfEdge, fromOfLink, toOfLink, edgeBytes, entryBytes, recent}
-use Rattle.questions.specs.Questions.{pick}
-use Rattle.file.specs.Accepted.{Accepted}
-use Rattle.questions.specs.Tables.{number}
 use Rattle.records.specs.declared.Shape.{Shape}
+use Rattle.questions.specs.Questions.{pick}
+use Rattle.questions.specs.Tables.{number}
 use Rattle.questions.proofs.Lists.{number-is, number-has}
+use Rattle.file.specs.Accepted.{Accepted}
 use Rattle.file.proofs.Accepted.{edge-port-low, link-from-low, link-to-low, froms-differ, tos-differ, no-edge-at-from, no-edge-at-to, edge-of, entry-of}
 use Rattle.forwarding.specs.Fabric as Forwarding
 use Rattle.forwarding.specs.Fabric.{Sound}
 use Rattle.model.specs.Model.{under, entryFrom, noEntry, edgeAt, linkBeginning, linkEnding, fabricOf, fabricIn}
-use Rattle.model.proofs.Shapes.{fabric-is, EdgeThere, edge-there}
+use Rattle.model.proofs.Shapes.{fabric-is, edge-there}
 
 -- ---- links found by one of their ports
 

@@ -1,16 +1,15 @@
 -- The fabric that an accepted file describes, as forwarding sees it: document 01, "The fabric file". Assumes nothing.
 use mathlib.Core.List.{List}
-use mathlib.Core.Path.{_≡_}
 use Prim.Native.Nat.{ℕ, zero, suc, _*_}
 use lib.Dec.{ltb}
-use Rattle.headers.specs.Sets.{Set, allWild, noRewrite}
+use Rattle.headers.specs.Sets.{allWild, noRewrite}
 use Rattle.records.specs.Records.{headerWords, edgeGroup, edgeAdmitted, entryPriority, entryIn, entryOut, entryMatch, entryRewrite, placeOf, portOfEdge, fromOfLink, toOfLink, recent, edgeBytes, entryBytes}
-use Rattle.questions.specs.Questions.{pick, shape, accepted}
-use Rattle.file.specs.Accepted.{Accepted}
-use Rattle.questions.specs.Tables.{number}
 use Rattle.records.specs.declared.Shape.{Shape}
+use Rattle.questions.specs.Questions.{pick, shape, accepted}
+use Rattle.questions.specs.Tables.{number}
 use Rattle.questions.specs.declared.Read.{Read}
 use Rattle.questions.specs.declared.Read.the-variants.{Fabric, No}
+use Rattle.file.specs.Accepted.{Accepted}
 use Rattle.forwarding.specs.Fabric as Forwarding
 
 -- "A fabric is accepted if 1 to 7 all get a yes."

@@ -1,5 +1,4 @@
 -- What the search for the entry that takes a header promises. Assumes nothing.
-use mathlib.Core.List.{List}
 use mathlib.Core.Option.{some, none}
 use mathlib.Core.Path.{_≡_}
 use Prim.Native.Nat.{ℕ, _+_, _≤_, _<_}

@@ -5,8 +5,8 @@ use libc::STDOUT_FILENO;
 ghost use mathlib.Core.Path.{_≡_};
 ghost use Prim.Native.Nat.{_≤_};
 ghost use lib.ListN.{length};
-ghost use Rattle.answer.specs.Answer.{outcome};
 ghost use Rattle.headers.specs.Forms.{setOf};
+ghost use Rattle.answer.specs.Answer.{outcome};
 ghost use Rattle.query.specs.Program.{askedIn, programCall};
 
 // The asked set: words 4 to 11 of the query.

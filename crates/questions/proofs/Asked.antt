@@ -9,11 +9,11 @@ use borrow.Author.Tests.{lt-ltb, le-leb, lt-leb}
 use Rattle.headers.specs.Sets.{tidy}
 use Rattle.records.specs.Words.{wordAt, wordsIn, bits, kindOf, portOf, fromOf}
 use Rattle.records.specs.Records.{headerWords, admittedAt, edgeWords, matchAt, rewriteAt, entryWords, setFrom, placeOf, portOfEdge, fromOfLink, toOfLink, inOfEntry, recent}
+use Rattle.records.proofs.Words.{word-fits, port-range, from-range}
 use Rattle.questions.specs.Questions.{pick, latest, times, _asks_, firstNo, asked, inOrder, portsRight, setsTidy, linkFree, withinLimits, started}
 use Rattle.questions.specs.Reading.{lastKind, passedAt, Here, askedAt}
 use Rattle.questions.specs.Tables.{number}
 use Rattle.questions.proofs.Lists.{recent-long, elem-number}
-use Rattle.records.proofs.Words.{word-fits, port-range, from-range}
 
 -- ---- the last kind
 

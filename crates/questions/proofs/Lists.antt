@@ -9,8 +9,8 @@ use native.Mathlib.Omega.{arith}
 use lib.Dec.{eqb}
 use lib.ListN.{length}
 use borrow.Author.Tests.{eq-eqb, ne-eqb, eqb-true, eqb-false, not-true}
-use Rattle.questions.specs.Questions.{pick, latest, elem, times}
 use Rattle.records.specs.Records.{recent}
+use Rattle.questions.specs.Questions.{pick, latest, elem, times}
 use Rattle.questions.specs.Tables.{number}
 
 pub recent-more : (g : ℕ → ℕ) (n : ℕ) → recent g (n + 1) ≡ g n ∷ recent g n

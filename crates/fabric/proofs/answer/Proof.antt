@@ -4,13 +4,12 @@ use borrow.Author.Needs.{needs}
 use denote.Ref.{now}
 use Rattle.headers.specs.Forms.{setOf}
 use Rattle.answer.specs.Answer.{refused}
+use Rattle.questions.specs.declared.Read.{Read}
 use Rattle.file.specs.Accepted.{Accepted}
 use Rattle.file.specs.Tables.{Indexed, Tabled}
-use Rattle.questions.specs.declared.Read.{Read}
 use Rattle.file.proofs.Tables.{empty}
 use Rattle.fabric.specs.Questions.{Query, query}
-use Rattle.fabric.specs.Calls.{answerOf, callOf}
-use Rattle.fabric.specs.declared.Call.{Call}
+use Rattle.fabric.specs.Calls.{answerOf}
 use Rattle.fabric.proofs.Calls.{call-answers, call-refused}
 use Rattle.fabric.proofs.answer.Statement.{statement}
 use Rattle.fabric.proofs.answer.Tie as tie

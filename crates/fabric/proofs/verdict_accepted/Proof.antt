@@ -1,5 +1,5 @@
 -- `verdict_accepted` meets its contract: the questions are asked in turn, and the pass's end is the verdict's. Assumes nothing.
-use mathlib.Core.Bool.{Bool, true}
+use mathlib.Core.Bool.{Bool}
 use mathlib.Core.List.{List}
 use mathlib.Core.Path.{_≡_, sym, ap, ap₂, _∙_}
 use Prim.Native.Nat.{ℕ, _*_, _≤_}
@@ -14,7 +14,7 @@ use Rattle.headers.proofs.Booleans.{and-fst, and-snd}
 use Rattle.answer.specs.Answer.{outcome, writtenAt}
 use Rattle.questions.specs.Questions.{pick, firstNo}
 use Rattle.forwarding.specs.Verdict.{isolated}
-use Rattle.backtrace.specs.Play.{Played}
+use Rattle.events.specs.Play.{Played}
 use Rattle.fabric.specs.Questions.{Query, query}
 use Rattle.fabric.specs.Verdict.{verdictWords}
 use Rattle.fabric.proofs.Asking.{Yeses, all-yes}

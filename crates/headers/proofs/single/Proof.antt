@@ -1,6 +1,5 @@
 -- `single` meets its contract, word by word. Assumes nothing.
 use mathlib.Core.List.{[], _∷_}
-use Prim.Native.Nat.{ℕ}
 use borrow.Author.Needs.{needs}
 use Rattle.headers.specs.Bits.{single}
 use Rattle.headers.proofs.single.Statement.{statement}

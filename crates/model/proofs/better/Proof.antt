@@ -1,14 +1,13 @@
 -- `better` meets its contract: by the tests that led to each return entry i is no candidate, or the first, or higher than the best so far, or not.
 -- Assumes nothing.
-use mathlib.Core.Path.{_≡_, sym, ap, _∙_, subst}
-use mathlib.Core.List.{List}
-use mathlib.Core.Bool.{true, false}
-use Prim.Native.Nat.{ℕ, _≤_, _<_}
+use mathlib.Core.Path.{_≡_, sym, ap, _∙_}
+use mathlib.Core.Bool.{true}
+use Prim.Native.Nat.{_≤_, _<_}
 use borrow.Author.Needs.{needs}
 use borrow.Author.Tests.{not-true, not-false}
 use denote.Ref.{now}
 use native.Mathlib.Omega.{arith}
-use Rattle.headers.specs.Sets.{Set, contains}
+use Rattle.headers.specs.Sets.{contains}
 use Rattle.headers.specs.Forms.{setOf}
 use Rattle.headers.specs.declared.HeaderSet.{HeaderSet}
 use Rattle.records.specs.Records.{headerWords, entryMatch}

@@ -2,7 +2,7 @@
 -- Assumes nothing.
 use mathlib.Core.List.{flatMap}
 use mathlib.Core.Path.{_≡_, _∙_}
-use Prim.Native.Nat.{ℕ, _-_, _*_}
+use Prim.Native.Nat.{ℕ, _-_}
 use native.Mathlib.Omega.{arith}
 use borrow.Author.Needs.{needs}
 use borrow.Author.Tests.{not-true, not-false}
@@ -12,9 +12,9 @@ use lib.ListN.{length, drop}
 use Rattle.headers.specs.Carving.{parts}
 use Rattle.headers.specs.Forms.{setOf}
 use Rattle.headers.proofs.Positions.{array-words}
-use Rattle.backtrace.specs.Asked.{floorOf}
+use Rattle.entries.proofs.Entries.{entry-long}
+use Rattle.events.specs.Asked.{floorOf}
 use Rattle.backtrace.specs.Cycle.{eventsFrom}
-use Rattle.backtrace.proofs.Entries.{entry-long}
 use Rattle.backtrace.proofs.Paths.{kept-same, kept-on}
 use Rattle.backtrace.proofs.Steps.{run}
 use Rattle.backtrace.proofs.Tracings.{entries-from, after-unit}

@@ -1,22 +1,22 @@
 -- What `carve` and `stop` know of the functions that they call: their contracts, and of each other and themselves the contract
 -- below the measure. Assumes nothing.
 use Prim.Native.Nat.{ℕ}
-use Rattle.backtrace.proofs.asked.Reads as asked-reads
-use Rattle.backtrace.proofs.beater_after.Reads as beater-after-reads
-use Rattle.backtrace.proofs.before.Reads as before-reads
-use Rattle.backtrace.proofs.entry_at.Reads as entry-at-reads
-use Rattle.backtrace.proofs.finds.found.Reads as found-reads
-use Rattle.backtrace.proofs.first_beater.Reads as first-beater-reads
-use Rattle.backtrace.proofs.first_out.Reads as first-out-reads
-use Rattle.backtrace.proofs.match_at.Reads as match-at-reads
-use Rattle.backtrace.proofs.next_out.Reads as next-out-reads
-use Rattle.backtrace.proofs.place_at.Reads as place-at-reads
-use Rattle.backtrace.proofs.push.Reads as push-reads
-use Rattle.backtrace.proofs.two.Reads as two-reads
-use Rattle.backtrace.proofs.unit.Reads as unit-reads
-use Rattle.records.proofs.in_port.Reads as in-port-reads
 use Rattle.headers.proofs.HeaderSet.next_part.Reads as next-part-reads
 use Rattle.headers.proofs.HeaderSet.overlaps.Reads as overlaps-reads
+use Rattle.records.proofs.in_port.Reads as in-port-reads
+use Rattle.index.proofs.first_out.Reads as first-out-reads
+use Rattle.index.proofs.next_out.Reads as next-out-reads
+use Rattle.index.proofs.place_at.Reads as place-at-reads
+use Rattle.entries.proofs.beater_after.Reads as beater-after-reads
+use Rattle.entries.proofs.before.Reads as before-reads
+use Rattle.entries.proofs.entry_at.Reads as entry-at-reads
+use Rattle.entries.proofs.first_beater.Reads as first-beater-reads
+use Rattle.entries.proofs.match_at.Reads as match-at-reads
+use Rattle.events.proofs.asked.Reads as asked-reads
+use Rattle.events.proofs.found.Reads as found-reads
+use Rattle.events.proofs.unit.Reads as unit-reads
+use Rattle.backtrace.proofs.push.Reads as push-reads
+use Rattle.backtrace.proofs.two.Reads as two-reads
 use Rattle.backtrace.proofs.carve.Reads as carve
 use Rattle.backtrace.proofs.stop.Reads as stop
 use Rattle.backtrace.proofs.+carve+stop.Lts-carve as carve-lts

@@ -1,14 +1,14 @@
 -- What `stop` asks to be proved: its loop is at an entry (`AtEntry` of proofs/Stops.antt), and each way out and each turn is a law there.
 -- Assumes nothing.
 use mathlib.Core.Path.{_∙_}
-use Prim.Native.Nat.{ℕ, _-_, _*_}
+use Prim.Native.Nat.{ℕ, _-_}
 use native.Mathlib.Omega.{arith}
 use borrow.Author.Needs.{needs}
 use borrow.Author.Tests.{not-true, not-false}
 use borrow.Fn.Kinds.{In, Out}
 use denote.Ref.{now}
 use Rattle.headers.specs.Forms.{setOf}
-use Rattle.backtrace.proofs.Entries.{entry-long}
+use Rattle.entries.proofs.Entries.{entry-long}
 use Rattle.backtrace.proofs.Paths.{kept-same, kept-on}
 use Rattle.backtrace.proofs.Tracings.{entries-from, after-unit, after-push}
 use Rattle.backtrace.proofs.Stops.{at-edge, no-link, no-hop, AtEntry, first-entry, entries-end, kept-under, later-entry, entry-refused, entry-empty, entry-ended, entry-through}

@@ -1,13 +1,11 @@
 -- `hop` meets its contract: each return is one of the fates of forwarding. Assumes nothing.
-use mathlib.Core.List.{List}
-use mathlib.Core.Option.{some, none}
-use mathlib.Core.Path.{_≡_, sym, ap, ap₂, _∙_}
-use Prim.Native.Nat.{ℕ, _≤_, _<_}
+use mathlib.Core.Option.{some}
+use mathlib.Core.Path.{_≡_, sym, ap₂, _∙_}
+use Prim.Native.Nat.{ℕ, _<_}
 use borrow.Author.Needs.{needs}
 use denote.Ref.{now}
 use native.Mathlib.Omega.{arith}
 use Rattle.headers.specs.Sets.{Rewrite, rewritten}
-use Rattle.records.specs.Records.{headerWords}
 use Rattle.file.proofs.Accepted.{few-entries}
 use Rattle.forwarding.specs.Fabric.{outPortOf, applied}
 use Rattle.forwarding.specs.Run.{taker}

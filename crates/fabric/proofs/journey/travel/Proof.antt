@@ -1,17 +1,15 @@
 -- `travel` meets its contract. The loop's invariant: j is the packet after k hops, or at its end before. Assumes nothing.
-use mathlib.Core.Path.{_≡_, refl, sym, ap, _∙_}
-use Prim.Native.Nat.{ℕ, suc, _-_, _≤_, _<_}
+use mathlib.Core.Path.{_≡_, sym, ap, _∙_}
+use Prim.Native.Nat.{ℕ, _-_, _≤_}
 use borrow.Author.Needs.{needs}
 use denote.Ref.{now}
-use native.Mathlib.Numerals.{add-one}
 use native.Mathlib.Omega.{arith}
 use Rattle.answer.specs.Answer.{sixteen}
-use Rattle.forwarding.specs.Run.{Packet, run, hop, fateOf, portOf, headerOf, hopsMade, takenBy}
+use Rattle.forwarding.specs.Run.{run, hop, fateOf, portOf, headerOf, takenBy}
 use Rattle.forwarding.proofs.Runs.{hops-within}
 use Rattle.model.specs.Model.{fabricIn}
 use Rattle.fabric.specs.Journey.{journeyOf}
 use Rattle.fabric.proofs.Hops.{one-more-hop, few-hops}
-use Rattle.fabric.specs.declared.journey.Journey.{Journey}
 use Rattle.fabric.proofs.journey.travel.Statement.{statement}
 use Rattle.fabric.proofs.journey.travel.Tie as tie
 

@@ -1,5 +1,4 @@
 -- `entries_at` meets its contract: an accepted file's shape is small, and the entries stand after the edges and the links. Assumes nothing.
-use mathlib.Core.Path.{_≡_}
 use native.Mathlib.Omega.{arith}
 use denote.Ref.{now}
 use Rattle.file.proofs.Accepted.{few-edges, few-links}

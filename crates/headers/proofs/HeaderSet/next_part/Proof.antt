@@ -1,16 +1,15 @@
 -- `HeaderSet::next_part` meets its contract: with no free bit there is no cut, and else the cut is at the first. Assumes nothing.
 use mathlib.Core.Bool.{true, false}
 use mathlib.Core.List.{List}
-use mathlib.Core.Option.{some, none}
+use mathlib.Core.Option.{some}
 use mathlib.Core.Path.{_≡_, sym, ap, ap₂, _∙_}
 use Prim.Native.Nat.{ℕ}
 use borrow.Author.Needs.{needs}
 use Rattle.headers.specs.Bits.{Words, noBit, firstSet, single}
 use Rattle.headers.specs.Sets.{Set}
-use Rattle.headers.specs.Carving.{free, turned, taking, Cut}
+use Rattle.headers.specs.Carving.{free, turned, taking}
 use Rattle.headers.specs.Forms.{setOf, formOf, nextOf}
 use Rattle.headers.specs.declared.HeaderSet.{HeaderSet}
-use Rattle.headers.specs.declared.NextPart.{NextPart}
 use Rattle.headers.proofs.Positions.{array-words}
 use Rattle.headers.proofs.Carved.{cut-nowhere, cut-first}
 use Rattle.headers.proofs.HeaderSet.next_part.Statement.{statement}

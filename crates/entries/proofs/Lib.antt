@@ -1,0 +1,5 @@
+pub mod Those
+pub mod Entries
+pub mod Backs
+pub mod InChains
+pub mod Beaters
