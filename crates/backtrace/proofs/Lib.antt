@@ -1,7 +1,8 @@
 mod Steps
 mod Paths
 mod Tracings
-pub mod Places
+mod Places
 mod Stops
 mod Cuts
 mod Carves
+mod Passing

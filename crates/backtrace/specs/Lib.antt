@@ -1,1 +1,2 @@
 pub mod Cycle
+pub mod Pass

@@ -22,6 +22,17 @@ ghost use Rattle.events.specs.Asked.{Asked, Path, Room, budgetOf, target
 // Where numbers stand in `ask`.
 const BUDGET: usize = 0;
 
+const MODE: usize = 1;
+
+const GROUP: usize = 4;
+
+// What is done with the finds.
+pub const COUNT: u32 = 1;
+
+pub const LIST: u32 = 2;
+
+pub const JUDGE: u32 = 3;
+
 // The places of the path: the entries of a find stand in places d to 15.
 const PLACES: usize = 16;
 
@@ -242,7 +253,7 @@ fn judge(
     ensures { λ r. ⌜ playedOf r (now (counters .entry)) (now (area .exit)) ≡ judged (fabricIn (now (file .entry))) (targetOf (now (ask .entry))) (findAt (now (file .entry)) k (now (path .entry)) d (setOf p)) (worldOf (now (counters .entry)) (now (area .entry))) ⌝ }
 {
     let edge = file::edge(file, k);
-    let foreign = foreign_part(edge, ask[4], p);
+    let foreign = foreign_part(edge, ask[GROUP], p);
     if !foreign.some {
         return 0;
     }
@@ -271,11 +282,11 @@ pub fn found(
     requires { ⌜ Room (now ask) (now counters) (now area) ⌝ }
     ensures { λ r. ⌜ playedOf r (now (counters .exit)) (now (area .exit)) ≡ foundBy (now (file .entry)) (now (ask .entry)) (findAt (now (file .entry)) k (now (path .entry)) d (setOf p)) (worldOf (now (counters .entry)) (now (area .entry))) ⌝ }
 {
-    let mode = ask[1];
-    if mode == 2 {
+    let mode = ask[MODE];
+    if mode == LIST {
         return list_find(file, area, k, p, d, path, counters);
     }
-    if mode == 3 {
+    if mode == JUDGE {
         return judge(file, ask, area, k, p, d, path, counters);
     }
     count_find(d, counters);

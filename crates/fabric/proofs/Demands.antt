@@ -26,8 +26,9 @@ use Rattle.forwarding.proofs.Verdicts as verdicts
 use Rattle.model.specs.Model.{fabricOf, fabricIn}
 use Rattle.model.proofs.Soundness.{fabric-sound}
 use Rattle.events.specs.Play.{reachedWords}
+use Rattle.journey.specs.Journey.{packetWords}
 use Rattle.fabric.specs.Questions.{Query, orRefused}
-use Rattle.fabric.specs.Run.{packetRun, packetWords, runQuestions, runAnswer, runCall}
+use Rattle.fabric.specs.Run.{packetRun, runQuestions, runAnswer, runCall}
 use Rattle.fabric.specs.Verdict.{verdictAsked, verdictWords, verdictQuestions, verdictAnswer, verdictCall}
 use Rattle.fabric.specs.List.{traceAsked, wordsAsked, listQuestions, listAnswer, listCall}
 use Rattle.fabric.specs.Demands.{Demand1, Demand2, Demand3}

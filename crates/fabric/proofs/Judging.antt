@@ -10,6 +10,7 @@ use lib.Dec.{leb}
 use lib.ListN.{length, length-append}
 use Rattle.headers.specs.Sets.{Header}
 use Rattle.answer.specs.Answer.{Outcome, outcome, answered, writtenAt, sixteen}
+use Rattle.answer.proofs.Sixteen.{sixteen-long}
 use Rattle.questions.specs.Questions.{pick, Question, _asks_, firstNo}
 use Rattle.forwarding.specs.Trace.{Event, trace}
 use Rattle.forwarding.specs.Verdict.{Verdict, isolated, reached, unitsIn}
@@ -18,10 +19,9 @@ use Rattle.forwarding.proofs.Budget.{ifWithin, verdict-within}
 use Rattle.model.specs.Model.{fabricOf, fabricIn}
 use Rattle.events.specs.Play.{Played, reachedWords}
 use Rattle.events.proofs.VerdictPlayed.{VerdictPlayed, verdict-played}
+use Rattle.backtrace.specs.Pass.{begin, passOf}
 use Rattle.fabric.specs.Questions.{Query, limitRight, askedTidy, roomForAnswer, orRefused}
-use Rattle.fabric.specs.Tracing.{begin, passOf}
 use Rattle.fabric.specs.Verdict.{verdictWords, verdictAsked}
-use Rattle.fabric.proofs.Sixteen.{sixteen-long}
 use Rattle.fabric.proofs.Asking.{no-answered, yes-answered}
 use Rattle.fabric.proofs.MoreAsked.{first-no-more, first-no-said}
 

@@ -1,8 +1,4 @@
-pub mod Lookups
-pub mod Sixteen
-pub mod Hops
 pub mod Asking
-pub mod Passing
 pub mod MoreAsked
 pub mod Calls
 pub mod Judging

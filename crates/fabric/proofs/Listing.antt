@@ -22,8 +22,8 @@ use Rattle.forwarding.proofs.Budget.{ends-within}
 use Rattle.model.specs.Model.{fabricOf, fabricIn}
 use Rattle.events.specs.Play.{World, Played, andThen, unitMade, makeUnit, step, play, findWords, tooMany, countedOn, counted, listWords}
 use Rattle.events.proofs.ListPlayed.{counted-all, counted-stops, listed-all}
-use Rattle.fabric.specs.Tracing.{begin, playedThen, passOf}
-use Rattle.fabric.specs.declared.trace.Passed.{Passed}
+use Rattle.backtrace.specs.Pass.{begin, playedThen, passOf}
+use Rattle.backtrace.specs.declared.Passed.{Passed}
 
 -- ---- carving leaves few parts, of as many words
 

@@ -1,19 +1,16 @@
 -- The call run: document 01, "A packet run takes an edge port, header and hop limit and fills 24 words." Assumes nothing.
 use mathlib.Core.Bool.{_&&_}
-use mathlib.Core.List.{List, [], _∷_, _++_}
+use mathlib.Core.List.{List, [], _∷_}
 use Prim.Native.Nat.{ℕ}
-use Rattle.answer.specs.Answer.{Outcome, refused, answered, sixteen}
+use Rattle.answer.specs.Answer.{Outcome, refused, answered}
 use Rattle.questions.specs.Questions.{accepted, Question, _asks_, firstNo}
 use Rattle.questions.specs.declared.Read.{Read}
 use Rattle.questions.specs.declared.Read.the-variants.{Fabric, No}
 use Rattle.forwarding.specs.Fabric as Forwarding
-use Rattle.forwarding.specs.Run.{Packet, run, fateOf, portOf, headerOf, entriesTaken, hopsMade}
+use Rattle.forwarding.specs.Run.{Packet, run}
 use Rattle.model.specs.Model.{fabricIn}
+use Rattle.journey.specs.Journey.{packetWords}
 use Rattle.fabric.specs.Questions.{Query, limitRight, askedTidy, caresForAll, roomForAnswer, orRefused}
-
--- "Word 0: fate .. Word 1: 0. Word 2: port .. Word 3: hops. Words 4 to 7: header then. Words 8 to 23: entries taken"
-unfoldable pub packetWords : Packet → List ℕ
-packetWords p = fateOf p ∷ 0 ∷ portOf p ∷ hopsMade p ∷ (headerOf p ++ sixteen (entriesTaken p))
 
 -- the packet that a query asks for: every bit of its header is cared for, so the header is the asked value
 abbrev pub packetRun : Forwarding.Fabric → Query → Packet

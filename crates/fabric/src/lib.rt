@@ -1,10 +1,8 @@
 // The calls that the runtime's host makes: document 01, "The runtime's host, in Rust, makes these calls on byte slices and numbers".
 // Each asks document 01's questions in turn, and returns place × 256 + number; after a no every lent byte is as it was.
-mod journey;
-mod trace;
-
 use headers::HeaderSet;
 use questions::Read;
+use questions::ask;
 use records::Shape;
 ghost use mathlib.Core.Path.{_≡_};
 ghost use mathlib.Core.List.{[], _∷_};
@@ -13,7 +11,6 @@ ghost use lib.ListN.{length};
 ghost use Rattle.headers.specs.Forms.{setOf};
 ghost use Rattle.answer.specs.Answer.{outcome, writtenAt};
 ghost use Rattle.records.specs.Records.{portOfEdge, fromOfLink, toOfLink, recent};
-ghost use Rattle.questions.specs.Questions.{pick};
 ghost use Rattle.questions.specs.Tables.{Numbers};
 ghost use Rattle.questions.specs.declared.Read.the-variants.{Fabric};
 ghost use Rattle.file.specs.Accepted.{Accepted};
@@ -33,14 +30,7 @@ const ANSWERED: u64 = 24 * 256;
 // Question 13, which is asked while the units are made.
 const BUDGET_USED: u64 = 13;
 
-// ---- questions in turn
-
-// A question's number if it got a no, else what the later questions said.
-fn ask(number: u32, yes: bool, later: u32) -> u32
-    ensures { λ r. ⌜ r ≡ pick yes later number ⌝ }
-{
-    if yes { later } else { number }
-}
+// ---- questions 9 to 11
 
 fn limit_right(limit: u32) -> bool
     ensures { λ r. ⌜ r ≡ limitRight limit ⌝ }
@@ -145,13 +135,13 @@ fn verdict_accepted(
         return no as u64;
     }
     let index = index::build(file, shape, edge_of, ends);
-    let p = trace::pass(
+    let p = backtrace::pass(
         file,
         area,
         shape,
         edge_of,
         &index,
-        trace::JUDGE,
+        events::JUDGE,
         target,
         limit,
         budget,
@@ -193,13 +183,13 @@ fn list_accepted(
         return no as u64;
     }
     let index = index::build(file, shape, edge_of, ends);
-    let counted = trace::pass(
+    let counted = backtrace::pass(
         file,
         area,
         shape,
         edge_of,
         &index,
-        trace::COUNT,
+        events::COUNT,
         target,
         limit,
         budget,
@@ -212,13 +202,13 @@ fn list_accepted(
     if room < counted.words {
         return 12;
     }
-    trace::pass(
+    backtrace::pass(
         file,
         area,
         shape,
         edge_of,
         &index,
-        trace::LIST,
+        events::LIST,
         target,
         limit,
         budget,

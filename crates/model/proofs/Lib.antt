@@ -2,3 +2,4 @@ pub mod Shapes
 pub mod Soundness
 pub mod EntryRead
 pub mod Candidates
+pub mod Lookups

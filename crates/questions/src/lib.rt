@@ -26,7 +26,7 @@ pub enum Read {
 // ---- questions in turn
 
 // A question's number if it got a no, else what the later questions said.
-fn ask(number: u32, yes: bool, later: u32) -> u32
+pub fn ask(number: u32, yes: bool, later: u32) -> u32
     ensures { λ r. ⌜ r ≡ pick yes later number ⌝ }
 {
     if yes { later } else { number }

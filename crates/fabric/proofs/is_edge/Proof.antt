@@ -3,7 +3,7 @@ use mathlib.Core.Path.{sym}
 use borrow.Author.Needs.{needs}
 use denote.Ref.{now}
 use native.Mathlib.Omega.{arith}
-use Rattle.fabric.proofs.Lookups.{edge-past, edge-looked-up}
+use Rattle.model.proofs.Lookups.{edge-past, edge-looked-up}
 use Rattle.fabric.proofs.is_edge.Statement.{statement}
 use Rattle.fabric.proofs.is_edge.Tie as tie
 

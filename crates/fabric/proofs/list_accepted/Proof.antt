@@ -16,10 +16,10 @@ use Rattle.questions.specs.Questions.{pick, Question, _asks_, firstNo}
 use Rattle.forwarding.specs.Fabric.{Fabric}
 use Rattle.forwarding.specs.Trace.{units}
 use Rattle.model.specs.Model.{fabricIn}
+use Rattle.backtrace.specs.Pass.{playedThen, passOf}
+use Rattle.backtrace.specs.declared.Passed.{Passed}
 use Rattle.fabric.specs.Questions.{Query, query, limitRight, askedTidy, orRefused}
 use Rattle.fabric.specs.List.{traceAsked, wordsAsked, listQuestions}
-use Rattle.fabric.specs.Tracing.{playedThen, passOf}
-use Rattle.fabric.specs.declared.trace.Passed.{Passed}
 use Rattle.fabric.proofs.Asking.{Numbered, Yeses, all-yes, no-answered, yes-answered}
 use Rattle.fabric.proofs.MoreAsked.{first-no-more, first-no-said}
 use Rattle.fabric.proofs.Listing.{AllCounted, over-budget, all-counted, all-listed}

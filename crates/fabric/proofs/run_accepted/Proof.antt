@@ -14,11 +14,11 @@ use Rattle.headers.proofs.Booleans.{and-snd}
 use Rattle.answer.specs.Answer.{writtenAt}
 use Rattle.questions.specs.Questions.{pick, firstNo}
 use Rattle.model.specs.Model.{fabricIn}
+use Rattle.journey.specs.Journey.{packetWords, journeyWords}
+use Rattle.journey.proofs.Hops.{few-hops-then, words-are-24, words-same}
 use Rattle.fabric.specs.Questions.{query}
-use Rattle.fabric.specs.Run.{runQuestions, packetRun, packetWords}
-use Rattle.fabric.specs.Journey.{journeyWords}
+use Rattle.fabric.specs.Run.{runQuestions, packetRun}
 use Rattle.fabric.proofs.Asking.{Yeses, all-yes, no-answered, yes-answered}
-use Rattle.fabric.proofs.Hops.{few-hops-then, words-are-24, words-same}
 use Rattle.fabric.proofs.run_accepted.Statement.{statement}
 use Rattle.fabric.proofs.run_accepted.Tie as tie
 

@@ -8,10 +8,10 @@ use Rattle.answer.specs.Answer.{sixteen}
 use Rattle.forwarding.specs.Run.{run, hop, fateOf, portOf, headerOf, takenBy}
 use Rattle.forwarding.proofs.Runs.{hops-within}
 use Rattle.model.specs.Model.{fabricIn}
-use Rattle.fabric.specs.Journey.{journeyOf}
-use Rattle.fabric.proofs.Hops.{one-more-hop, few-hops}
-use Rattle.fabric.proofs.journey.travel.Statement.{statement}
-use Rattle.fabric.proofs.journey.travel.Tie as tie
+use Rattle.journey.specs.Journey.{journeyOf}
+use Rattle.journey.proofs.Hops.{one-more-hop, few-hops}
+use Rattle.journey.proofs.travel.Statement.{statement}
+use Rattle.journey.proofs.travel.Tie as tie
 
 abbrev Inv-loop : tie.InvT-loop
 Inv-loop file shape starts start limit j₀ k₀ j k = (k ≤ limit) × (j ≡ journeyOf (run (fabricIn file) k start (j₀ .header)))

@@ -4,8 +4,8 @@ use denote.Ref.{now}
 use Rattle.file.proofs.Accepted.{few-edges, few-links}
 use Rattle.model.specs.Model.{entriesAt}
 use Rattle.model.proofs.Shapes.{shape-is}
-use Rattle.fabric.proofs.trace.entries_at.Statement.{statement}
-use Rattle.fabric.proofs.trace.entries_at.Tie as tie
+use Rattle.backtrace.proofs.entries_at.Statement.{statement}
+use Rattle.backtrace.proofs.entries_at.Tie as tie
 
 mul-result : tie.Need-mul-result
 mul-result c = let s = c .before in omega (arith, few-edges _ _ (s .pre))

@@ -7,8 +7,8 @@ use lib.ListN.{length}
 use native.Mathlib.Omega.{arith}
 use Rattle.answer.specs.Answer.{writtenAt}
 use Rattle.answer.proofs.Written.{written-three}
-use Rattle.fabric.proofs.journey.put.Statement.{statement}
-use Rattle.fabric.proofs.journey.put.Tie as tie
+use Rattle.journey.proofs.put.Statement.{statement}
+use Rattle.journey.proofs.put.Tie as tie
 
 cast-t6 : tie.Need-cast-t6
 cast-t6 c = search needs

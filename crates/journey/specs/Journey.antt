@@ -1,11 +1,17 @@
--- A packet as the code carries it: its entries in an array, in travelling order. Assumes nothing.
+-- The words of a packet's run, and the packet as the code carries it: its entries in an array, in travelling order. Assumes nothing.
 use mathlib.Core.List.{List, _∷_, _++_}
 use mathlib.Core.Path.{_≡_}
 use Prim.Native.Nat.{ℕ, _<_}
 use Rattle.answer.specs.Answer.{sixteen}
 use Rattle.forwarding.specs.Fabric.{Fabric}
 use Rattle.forwarding.specs.Run.{Packet, fateOf, portOf, headerOf, entriesTaken, hopsMade, hop}
-use Rattle.fabric.specs.declared.journey.Journey.{Journey}
+use Rattle.journey.specs.declared.Journey.{Journey}
+
+-- "Word 0: fate .. Word 1: 0. Word 2: port .. Word 3: hops. Words 4 to 7: header then. Words 8 to 23: entries taken"
+unfoldable pub packetWords : Packet → List ℕ
+packetWords p = fateOf p ∷ 0 ∷ portOf p ∷ hopsMade p ∷ (headerOf p ++ sixteen (entriesTaken p))
+
+-- ---- the packet as the code carries it
 
 unfoldable pub journeyOf : Packet → Journey
 journeyOf p = record { fate = fateOf p; port = portOf p; hops = hopsMade p; header = headerOf p; entries = sixteen (entriesTaken p) }

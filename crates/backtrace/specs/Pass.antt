@@ -6,7 +6,7 @@ use Rattle.forwarding.specs.Trace.{trace}
 use Rattle.model.specs.Model.{fabricIn}
 use Rattle.events.specs.Play.{World, Played, play}
 use Rattle.events.specs.Asked.{byMode}
-use Rattle.fabric.specs.declared.trace.Passed.{Passed}
+use Rattle.backtrace.specs.declared.Passed.{Passed}
 
 -- nothing is made or counted yet
 abbrev pub begin : List ℕ → World

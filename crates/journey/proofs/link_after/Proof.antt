@@ -5,9 +5,9 @@ use borrow.Author.Needs.{needs}
 use denote.Ref.{now}
 use lib.ListN.{getD}
 use native.Mathlib.Omega.{arith}
-use Rattle.fabric.proofs.Lookups.{no-link, link-looked-up, link-number}
-use Rattle.fabric.proofs.journey.link_after.Statement.{statement}
-use Rattle.fabric.proofs.journey.link_after.Tie as tie
+use Rattle.model.proofs.Lookups.{no-link, link-looked-up, link-number}
+use Rattle.journey.proofs.link_after.Statement.{statement}
+use Rattle.journey.proofs.link_after.Tie as tie
 
 -- the number found counts from 1
 one-more : (c : tie.Else1) → getD (now (c .before .before .before .before .args .starts)) (c .before .before .before .before .args .o) 0 ≡ suc (c .before .size .result - 1)

@@ -8,13 +8,12 @@ use native.Mathlib.Omega.{arith}
 use lib.ListN.{length, set, length-reverse, length-append}
 use Rattle.headers.specs.Sets.{Header}
 use Rattle.answer.specs.Answer.{sixteen}
+use Rattle.answer.proofs.Sixteen.{sixteen-more, sixteen-long}
 use Rattle.forwarding.specs.Fabric.{Fabric, outPortOf, applied}
 use Rattle.forwarding.specs.Run.{Packet, left, dropped, lost, travelling, taker, sentOut, forwarded, hop, run, fateOf, portOf, headerOf, takenBy, entriesTaken, hopsMade}
 use Rattle.forwarding.proofs.Runs.{hops-within}
-use Rattle.fabric.specs.Run.{packetWords}
-use Rattle.fabric.specs.Journey.{journeyOf, journeyWords, Hopped}
-use Rattle.fabric.specs.declared.journey.Journey.{Journey}
-use Rattle.fabric.proofs.Sixteen.{sixteen-more, sixteen-long}
+use Rattle.journey.specs.Journey.{packetWords, journeyOf, journeyWords, Hopped}
+use Rattle.journey.specs.declared.Journey.{Journey}
 
 -- the packet that j is, still travelling
 record Travels (p : Packet) (j : Journey) : Type 0 where

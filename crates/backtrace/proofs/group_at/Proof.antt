@@ -7,9 +7,9 @@ use denote.Ref.{now}
 use lib.ListN.{length, getD}
 use Rattle.records.specs.Records.{edgeGroup, edgeBytes}
 use Rattle.file.proofs.Accepted.{few-edges, edge-of}
-use Rattle.fabric.proofs.Lookups.{EdgeFound, edge-found}
-use Rattle.fabric.proofs.trace.group_at.Statement.{statement}
-use Rattle.fabric.proofs.trace.group_at.Tie as tie
+use Rattle.model.proofs.Lookups.{EdgeFound, edge-found}
+use Rattle.backtrace.proofs.group_at.Statement.{statement}
+use Rattle.backtrace.proofs.group_at.Tie as tie
 
 there : (s : tie.Start) → EdgeFound (now (s .args .file)) (s .args .shape) (s .pre .0) (now (s .args .edge-of)) (s .args .port)
 there s = edge-found (now (s .args .file)) (s .args .shape) (s .pre .0) (now (s .args .edge-of)) (s .pre .1 .0) (s .args .port) (s .pre .1 .1)

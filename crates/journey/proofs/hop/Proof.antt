@@ -11,9 +11,9 @@ use Rattle.forwarding.specs.Fabric.{outPortOf, applied}
 use Rattle.forwarding.specs.Run.{taker}
 use Rattle.model.specs.Model.{fabricIn}
 use Rattle.model.proofs.EntryRead.{EntryRead, entry-read, entries-are, words-are}
-use Rattle.fabric.proofs.Hops.{hopped-ended, hopped-lost, hopped-dropped, hopped-left, hopped-on}
-use Rattle.fabric.proofs.journey.hop.Statement.{statement}
-use Rattle.fabric.proofs.journey.hop.Tie as tie
+use Rattle.journey.proofs.Hops.{hopped-ended, hopped-lost, hopped-dropped, hopped-left, hopped-on}
+use Rattle.journey.proofs.hop.Statement.{statement}
+use Rattle.journey.proofs.hop.Tie as tie
 
 -- an entry took the packet
 one-below : (c : tie.Else2) → c .before .before .taker .result < c .before .before .before .before .before .before .before .before .args .shape .entries

@@ -3,10 +3,10 @@ use borrow.Author.Needs.{needs}
 use denote.Ref.{now}
 use native.Mathlib.Omega.{arith}
 use Rattle.headers.specs.Forms.{setOf}
-use Rattle.fabric.proofs.Lookups.{EdgeFound, edge-found}
-use Rattle.fabric.proofs.Passing.{tracing, passed}
-use Rattle.fabric.proofs.trace.pass.Statement.{statement}
-use Rattle.fabric.proofs.trace.pass.Tie as tie
+use Rattle.model.proofs.Lookups.{EdgeFound, edge-found}
+use Rattle.backtrace.proofs.Passing.{tracing, passed}
+use Rattle.backtrace.proofs.pass.Statement.{statement}
+use Rattle.backtrace.proofs.pass.Tie as tie
 
 there : (s : tie.Start) → EdgeFound (now (s .args .file)) (s .args .shape) (s .pre .0) (now (s .args .edge-of)) (s .args .target)
 there s = edge-found (now (s .args .file)) (s .args .shape) (s .pre .0) (now (s .args .edge-of)) (s .pre .1 .0) (s .args .target) (s .pre .1 .1 .1 .0)

@@ -9,7 +9,7 @@ ghost use Rattle.questions.specs.Tables.{Numbers};
 ghost use Rattle.file.specs.Accepted.{Accepted};
 ghost use Rattle.forwarding.specs.Run.{run};
 ghost use Rattle.model.specs.Model.{fabricIn};
-ghost use Rattle.fabric.specs.Journey.{journeyOf, journeyWords, Hopped};
+ghost use Rattle.journey.specs.Journey.{journeyOf, journeyWords, Hopped};
 
 // A packet: its fate (0 left, 1 dropped, 2 lost, 3 travelling), port, header and hops made, and the entries that took it.
 pub struct Journey {
