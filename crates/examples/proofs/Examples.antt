@@ -18,9 +18,9 @@ use Rattle.forwarding.specs.Trace.{carved, atInPort, takenUp, stop, units, find
 use Rattle.forwarding.specs.Verdict.{foreignPacket, verdict, unitsIn}
 use Rattle.model.specs.Model.{shapeIn, edgeAt, fabricOf, fabricIn}
 use Rattle.events.specs.Play.{findWords, listWords, reachedWords}
-use Rattle.fabric.specs.Questions.{orRefused}
-use Rattle.fabric.specs.Verdict.{verdictWords, verdictCall}
-use Rattle.fabric.specs.List.{listCall}
+use Rattle.calls.specs.Questions.{orRefused}
+use Rattle.calls.specs.Verdict.{verdictWords, verdictCall}
+use Rattle.calls.specs.List.{listCall}
 use Rattle.examples.specs.Examples.{F, listed, reachedThere, isolatedThere, Always, target2, budget1, target1, Table}
 
 -- What the examples compute with: to open it is to open all that its line names.

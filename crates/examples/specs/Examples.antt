@@ -11,9 +11,9 @@ use Rattle.questions.specs.declared.Read.the-variants.{Fabric}
 use Rattle.forwarding.specs.BackTrace.{back}
 use Rattle.forwarding.specs.Examples.{header, tpDst, setTpDst, linked, entryOf}
 use Rattle.forwarding.specs.Fabric as Forwarding
-use Rattle.fabric.specs.Questions.{Query, query}
-use Rattle.fabric.specs.Verdict.{verdictCall}
-use Rattle.fabric.specs.List.{listCall}
+use Rattle.calls.specs.Questions.{Query, query}
+use Rattle.calls.specs.Verdict.{verdictCall}
+use Rattle.calls.specs.List.{listCall}
 
 -- "eight 0"
 abbrev pub eight : List ℕ

@@ -5,10 +5,10 @@ use Prim.Native.Nat.{ℕ}
 use Rattle.answer.specs.Answer.{refused}
 use Rattle.questions.specs.Questions.{accepted}
 use Rattle.questions.specs.declared.Read.the-variants.{No}
-use Rattle.fabric.specs.Questions.{Query}
-use Rattle.fabric.specs.Verdict.{verdictCall}
-use Rattle.fabric.specs.List.{listCall}
-use Rattle.fabric.specs.Run.{runCall}
+use Rattle.calls.specs.Questions.{Query}
+use Rattle.calls.specs.Verdict.{verdictCall}
+use Rattle.calls.specs.List.{listCall}
+use Rattle.calls.specs.Run.{runCall}
 use Rattle.fabric.specs.Calls.{answerOf, callOf}
 use Rattle.fabric.specs.declared.Call.{Call}
 use Rattle.fabric.specs.declared.Call.the-variants as Calls

@@ -27,12 +27,12 @@ use Rattle.model.specs.Model.{fabricOf, fabricIn}
 use Rattle.model.proofs.Soundness.{fabric-sound}
 use Rattle.events.specs.Play.{reachedWords}
 use Rattle.journey.specs.Journey.{packetWords}
-use Rattle.fabric.specs.Questions.{Query, orRefused}
-use Rattle.fabric.specs.Run.{packetRun, runQuestions, runAnswer, runCall}
-use Rattle.fabric.specs.Verdict.{verdictAsked, verdictWords, verdictQuestions, verdictAnswer, verdictCall}
-use Rattle.fabric.specs.List.{traceAsked, wordsAsked, listQuestions, listAnswer, listCall}
+use Rattle.calls.specs.Questions.{Query, orRefused}
+use Rattle.calls.specs.Run.{packetRun, runQuestions, runAnswer, runCall}
+use Rattle.calls.specs.Verdict.{verdictAsked, verdictWords, verdictQuestions, verdictAnswer, verdictCall}
+use Rattle.calls.specs.List.{traceAsked, wordsAsked, listQuestions, listAnswer, listCall}
+use Rattle.calls.proofs.Asking.{all-yes}
 use Rattle.fabric.specs.Demands.{Demand1, Demand2, Demand3}
-use Rattle.fabric.proofs.Asking.{all-yes}
 
 -- ---- demand 1
 

@@ -1,6 +1,2 @@
-pub mod Asking
-pub mod MoreAsked
-pub mod Calls
-pub mod Judging
-pub mod Listing
+mod Calls
 pub mod Demands

@@ -3,10 +3,10 @@ use mathlib.Core.List.{List}
 use Prim.Native.Nat.{ℕ}
 use Rattle.answer.specs.Answer.{Outcome}
 use Rattle.questions.specs.declared.Read.{Read}
-use Rattle.fabric.specs.Questions.{Query}
-use Rattle.fabric.specs.Verdict.{verdictAnswer, verdictCall}
-use Rattle.fabric.specs.List.{listAnswer, listCall}
-use Rattle.fabric.specs.Run.{runAnswer, runCall}
+use Rattle.calls.specs.Questions.{Query}
+use Rattle.calls.specs.Verdict.{verdictAnswer, verdictCall}
+use Rattle.calls.specs.List.{listAnswer, listCall}
+use Rattle.calls.specs.Run.{runAnswer, runCall}
 use Rattle.fabric.specs.declared.Call.{Call}
 use Rattle.fabric.specs.declared.Call.the-variants as Calls
 

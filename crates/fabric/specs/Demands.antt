@@ -20,9 +20,9 @@ use Rattle.forwarding.specs.BackTrace.{backTraced}
 use Rattle.forwarding.specs.Trace.{Find, Event, find, units, finds, pathsFor}
 use Rattle.forwarding.specs.Verdict.{isolated, reached, foreignPacket, Leak, NoLeak}
 use Rattle.model.specs.Model.{fabricIn}
-use Rattle.fabric.specs.Questions.{Query}
-use Rattle.fabric.specs.Verdict.{verdictAsked, verdictWords}
-use Rattle.fabric.specs.List.{traceAsked}
+use Rattle.calls.specs.Questions.{Query}
+use Rattle.calls.specs.Verdict.{verdictAsked, verdictWords}
+use Rattle.calls.specs.List.{traceAsked}
 
 -- ---- demand 1
 

@@ -1,6 +1,6 @@
 // The entry of an accepted file that takes a header. What a file's fabric is, is in specs/Model.antt.
 use records::Shape;
-ghost use Prim.Native.Nat.{_+_, _≤_, _<_};
+ghost use Prim.Native.Nat.{_≤_, _<_};
 ghost use Rattle.file.specs.Accepted.{Accepted};
 ghost use Rattle.model.specs.Model.{fabricIn};
 ghost use Rattle.model.specs.Taking.{Takes, Better};

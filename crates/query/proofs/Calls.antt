@@ -12,7 +12,7 @@ use Rattle.headers.specs.Sets.{Set}
 use Rattle.answer.specs.Answer.{Outcome, refused}
 use Rattle.records.specs.Words.{wordAt}
 use Rattle.questions.specs.Questions.{pick}
-use Rattle.fabric.specs.Questions.{Query, query}
+use Rattle.calls.specs.Questions.{Query, query}
 use Rattle.query.specs.Program.{askedIn, callNamed, madeOr, programCall}
 
 pub call-made : (input area : List ℕ) (call : List ℕ → Query → List ℕ → Outcome) (port limit budget : ℕ) (set : Set) (out : Outcome)

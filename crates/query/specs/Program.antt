@@ -9,10 +9,10 @@ use Rattle.answer.specs.Answer.{Outcome, refused}
 use Rattle.records.specs.Words.{wordAt}
 use Rattle.records.specs.Records.{setFrom, headerWords}
 use Rattle.questions.specs.Questions.{pick}
-use Rattle.fabric.specs.Questions.{Query, query}
-use Rattle.fabric.specs.Verdict.{verdictCall}
-use Rattle.fabric.specs.List.{listCall}
-use Rattle.fabric.specs.Run.{runCall}
+use Rattle.calls.specs.Questions.{Query, query}
+use Rattle.calls.specs.Verdict.{verdictCall}
+use Rattle.calls.specs.List.{listCall}
+use Rattle.calls.specs.Run.{runCall}
 
 -- "(1 verdict, 2 list, 3 run; target or start; hop limit; budget, unused by a run; care; value)"
 abbrev pub askedIn : List ℕ → Set

@@ -8,7 +8,7 @@ use Rattle.questions.specs.declared.Read.{Read}
 use Rattle.file.specs.Accepted.{Accepted}
 use Rattle.file.specs.Tables.{Indexed, Tabled}
 use Rattle.file.proofs.Tables.{empty}
-use Rattle.fabric.specs.Questions.{Query, query}
+use Rattle.calls.specs.Questions.{Query, query}
 use Rattle.fabric.specs.Calls.{answerOf}
 use Rattle.fabric.proofs.Calls.{call-answers, call-refused}
 use Rattle.fabric.proofs.answer.Statement.{statement}

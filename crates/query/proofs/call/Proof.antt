@@ -12,10 +12,10 @@ use lib.ListN.{length, take, drop}
 use Rattle.headers.specs.Forms.{setOf}
 use Rattle.answer.specs.Answer.{Outcome, refused}
 use Rattle.records.specs.Words.{wordAt}
-use Rattle.fabric.specs.Questions.{Query, query}
-use Rattle.fabric.specs.Verdict.{verdictCall}
-use Rattle.fabric.specs.List.{listCall}
-use Rattle.fabric.specs.Run.{runCall}
+use Rattle.calls.specs.Questions.{Query, query}
+use Rattle.calls.specs.Verdict.{verdictCall}
+use Rattle.calls.specs.List.{listCall}
+use Rattle.calls.specs.Run.{runCall}
 use Rattle.query.specs.Program.{programCall, callNamed}
 use Rattle.query.proofs.Calls.{call-made}
 use Rattle.query.proofs.call.Statement.{statement}

@@ -10,7 +10,7 @@ use Rattle.forwarding.specs.Fabric as Forwarding
 use Rattle.forwarding.specs.Run.{Packet, run}
 use Rattle.model.specs.Model.{fabricIn}
 use Rattle.journey.specs.Journey.{packetWords}
-use Rattle.fabric.specs.Questions.{Query, limitRight, askedTidy, caresForAll, roomForAnswer, orRefused}
+use Rattle.calls.specs.Questions.{Query, limitRight, askedTidy, caresForAll, roomForAnswer, orRefused}
 
 -- the packet that a query asks for: every bit of its header is cared for, so the header is the asked value
 abbrev pub packetRun : Forwarding.Fabric → Query → Packet

@@ -20,10 +20,10 @@ use Rattle.model.specs.Model.{fabricOf, fabricIn}
 use Rattle.events.specs.Play.{Played, reachedWords}
 use Rattle.events.proofs.VerdictPlayed.{VerdictPlayed, verdict-played}
 use Rattle.backtrace.specs.Pass.{begin, passOf}
-use Rattle.fabric.specs.Questions.{Query, limitRight, askedTidy, roomForAnswer, orRefused}
-use Rattle.fabric.specs.Verdict.{verdictWords, verdictAsked}
-use Rattle.fabric.proofs.Asking.{no-answered, yes-answered}
-use Rattle.fabric.proofs.MoreAsked.{first-no-more, first-no-said}
+use Rattle.calls.specs.Questions.{Query, limitRight, askedTidy, roomForAnswer, orRefused}
+use Rattle.calls.specs.Verdict.{verdictWords, verdictAsked}
+use Rattle.calls.proofs.Asking.{no-answered, yes-answered}
+use Rattle.calls.proofs.MoreAsked.{first-no-more, first-no-said}
 
 module _ (f : List ℕ) (q : Query) (area : List ℕ) where
   abbrev pub judgedPass : Played

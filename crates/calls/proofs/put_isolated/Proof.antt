@@ -1,8 +1,8 @@
 -- `put_isolated` meets its contract: the words written are those of 'isolated'. Assumes nothing.
 use borrow.Author.Needs.{needs}
-use Rattle.fabric.specs.Verdict.{verdictWords}
-use Rattle.fabric.proofs.put_isolated.Statement.{statement}
-use Rattle.fabric.proofs.put_isolated.Tie as tie
+use Rattle.calls.specs.Verdict.{verdictWords}
+use Rattle.calls.proofs.put_isolated.Statement.{statement}
+use Rattle.calls.proofs.put_isolated.Tie as tie
 
 array-write-words : tie.Need-array-write-words
 array-write-words c = search needs

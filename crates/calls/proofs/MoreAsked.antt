@@ -4,7 +4,7 @@ use mathlib.Core.List.{List, [], _∷_, _++_}
 use mathlib.Core.Path.{_≡_, refl}
 use native.Mathlib.Omega.{arith}
 use Rattle.questions.specs.Questions.{pick, Question, firstNo}
-use Rattle.fabric.proofs.Asking.{Numbered}
+use Rattle.calls.proofs.Asking.{Numbered}
 
 pub first-no-more : (qs more : List Question) → Numbered qs → firstNo qs ≡ 0 → firstNo (qs ++ more) ≡ firstNo more
 first-no-more [] more n e = refl

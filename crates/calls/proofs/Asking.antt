@@ -9,7 +9,7 @@ use lib.ListN.{length, drop}
 use borrow.Author.Tests.{ne-eqb}
 use Rattle.answer.specs.Answer.{Outcome, outcome, refused, answered, writtenAt, bytesOf}
 use Rattle.questions.specs.Questions.{pick, Question, firstNo}
-use Rattle.fabric.specs.Questions.{orRefused}
+use Rattle.calls.specs.Questions.{orRefused}
 
 abbrev pub Yeses : List Question → Type 0
 Yeses [] = Unit {0}

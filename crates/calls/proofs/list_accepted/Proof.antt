@@ -18,13 +18,13 @@ use Rattle.forwarding.specs.Trace.{units}
 use Rattle.model.specs.Model.{fabricIn}
 use Rattle.backtrace.specs.Pass.{playedThen, passOf}
 use Rattle.backtrace.specs.declared.Passed.{Passed}
-use Rattle.fabric.specs.Questions.{Query, query, limitRight, askedTidy, orRefused}
-use Rattle.fabric.specs.List.{traceAsked, wordsAsked, listQuestions}
-use Rattle.fabric.proofs.Asking.{Numbered, Yeses, all-yes, no-answered, yes-answered}
-use Rattle.fabric.proofs.MoreAsked.{first-no-more, first-no-said}
-use Rattle.fabric.proofs.Listing.{AllCounted, over-budget, all-counted, all-listed}
-use Rattle.fabric.proofs.list_accepted.Statement.{statement}
-use Rattle.fabric.proofs.list_accepted.Tie as tie
+use Rattle.calls.specs.Questions.{Query, query, limitRight, askedTidy, orRefused}
+use Rattle.calls.specs.List.{traceAsked, wordsAsked, listQuestions}
+use Rattle.calls.proofs.Asking.{Numbered, Yeses, all-yes, no-answered, yes-answered}
+use Rattle.calls.proofs.MoreAsked.{first-no-more, first-no-said}
+use Rattle.calls.proofs.Listing.{AllCounted, over-budget, all-counted, all-listed}
+use Rattle.calls.proofs.list_accepted.Statement.{statement}
+use Rattle.calls.proofs.list_accepted.Tie as tie
 
 -- ---- the questions
 

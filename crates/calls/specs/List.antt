@@ -11,7 +11,7 @@ use Rattle.forwarding.specs.Fabric as Forwarding
 use Rattle.forwarding.specs.Trace.{Event, trace, units, finds}
 use Rattle.model.specs.Model.{fabricIn}
 use Rattle.events.specs.Play.{listWords}
-use Rattle.fabric.specs.Questions.{Query, limitRight, askedTidy, orRefused}
+use Rattle.calls.specs.Questions.{Query, limitRight, askedTidy, orRefused}
 
 -- the events of the back-trace that a query asks for, were there no budget
 abbrev pub traceAsked : Forwarding.Fabric → Query → List Event

@@ -16,11 +16,11 @@ use Rattle.questions.specs.Questions.{pick, firstNo}
 use Rattle.model.specs.Model.{fabricIn}
 use Rattle.journey.specs.Journey.{packetWords, journeyWords}
 use Rattle.journey.proofs.Hops.{few-hops-then, words-are-24, words-same}
-use Rattle.fabric.specs.Questions.{query}
-use Rattle.fabric.specs.Run.{runQuestions, packetRun}
-use Rattle.fabric.proofs.Asking.{Yeses, all-yes, no-answered, yes-answered}
-use Rattle.fabric.proofs.run_accepted.Statement.{statement}
-use Rattle.fabric.proofs.run_accepted.Tie as tie
+use Rattle.calls.specs.Questions.{query}
+use Rattle.calls.specs.Run.{runQuestions, packetRun}
+use Rattle.calls.proofs.Asking.{Yeses, all-yes, no-answered, yes-answered}
+use Rattle.calls.proofs.run_accepted.Statement.{statement}
+use Rattle.calls.proofs.run_accepted.Tie as tie
 
 -- the number of the first no
 asked : (c : tie.After-ask4) → let s = c .before .before .before .before .before .before .before .before .before .before in

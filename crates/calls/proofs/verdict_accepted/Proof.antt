@@ -15,12 +15,12 @@ use Rattle.answer.specs.Answer.{outcome, writtenAt}
 use Rattle.questions.specs.Questions.{pick, firstNo}
 use Rattle.forwarding.specs.Verdict.{isolated}
 use Rattle.events.specs.Play.{Played}
-use Rattle.fabric.specs.Questions.{Query, query}
-use Rattle.fabric.specs.Verdict.{verdictWords}
-use Rattle.fabric.proofs.Asking.{Yeses, all-yes}
-use Rattle.fabric.proofs.Judging.{before-trace, no-before, verdict-isolated, made-low, answered-13, answered-reached, answered-isolated}
-use Rattle.fabric.proofs.verdict_accepted.Statement.{statement}
-use Rattle.fabric.proofs.verdict_accepted.Tie as tie
+use Rattle.calls.specs.Questions.{Query, query}
+use Rattle.calls.specs.Verdict.{verdictWords}
+use Rattle.calls.proofs.Asking.{Yeses, all-yes}
+use Rattle.calls.proofs.Judging.{before-trace, no-before, verdict-isolated, made-low, answered-13, answered-reached, answered-isolated}
+use Rattle.calls.proofs.verdict_accepted.Statement.{statement}
+use Rattle.calls.proofs.verdict_accepted.Tie as tie
 
 -- the file, the query and the area as the call has them
 f : tie.Start → List ℕ

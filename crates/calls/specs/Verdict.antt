@@ -11,7 +11,7 @@ use Rattle.forwarding.specs.Fabric as Forwarding
 use Rattle.forwarding.specs.Verdict.{Verdict, isolated, reached, unitsIn, verdictOn}
 use Rattle.model.specs.Model.{fabricIn}
 use Rattle.events.specs.Play.{reachedWords}
-use Rattle.fabric.specs.Questions.{Query, limitRight, askedTidy, roomForAnswer, orRefused}
+use Rattle.calls.specs.Questions.{Query, limitRight, askedTidy, roomForAnswer, orRefused}
 
 -- "0 isolated or 1 reached; units made; .. Isolated has 0 from word 2 on."
 unfoldable pub verdictWords : Verdict → List ℕ

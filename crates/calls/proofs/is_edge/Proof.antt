@@ -4,8 +4,8 @@ use borrow.Author.Needs.{needs}
 use denote.Ref.{now}
 use native.Mathlib.Omega.{arith}
 use Rattle.model.proofs.Lookups.{edge-past, edge-looked-up}
-use Rattle.fabric.proofs.is_edge.Statement.{statement}
-use Rattle.fabric.proofs.is_edge.Tie as tie
+use Rattle.calls.proofs.is_edge.Statement.{statement}
+use Rattle.calls.proofs.is_edge.Tie as tie
 
 returns : tie.Need-returns
 returns c = sym (edge-past (now (c .before .args .file)) (c .before .args .shape) (c .before .pre .0) (c .before .args .port) (c .if1 .taken))

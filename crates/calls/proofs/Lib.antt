@@ -1,0 +1,4 @@
+pub mod Asking
+mod MoreAsked
+mod Judging
+mod Listing

@@ -1,0 +1,4 @@
+pub mod Questions
+pub mod Run
+pub mod Verdict
+pub mod List
