@@ -176,7 +176,7 @@ fn entries_at(file: &[u8], shape: Shape) -> u32
     requires { ⌜ Accepted (now file) shape ⌝ }
     ensures { λ r. ⌜ r ≡ entriesAt (now (file .entry)) ⌝ }
 {
-    (4 + 36 * shape.edges + 4 * shape.links) as u32
+    (4 * records::place(shape.edges, shape.links, 0)) as u32
 }
 
 // One pass: the finds are counted, listed or judged, as the mode says.

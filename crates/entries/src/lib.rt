@@ -15,7 +15,7 @@ ghost use Rattle.entries.specs.Entries.{EntriesFrom, IsEntry, SameInPort
 pub const NO_ENTRY: usize = 512;
 
 // An entry's own bytes.
-const ENTRY: usize = 72;
+const ENTRY: usize = 4 * records::ENTRY;
 
 // ---- one entry
 

@@ -1,4 +1,4 @@
--- The three calls, as one: document 01, "1 verdict, 2 list, 3 run". Assumes nothing.
+-- The three calls, as one. Assumes nothing.
 use mathlib.Core.List.{List}
 use Prim.Native.Nat.{ℕ}
 use Rattle.answer.specs.Answer.{Outcome}

@@ -61,8 +61,8 @@ unfoldable pub single : ℕ → ℕ → List ℕ
 single n i = words n (λ w. cond (eqb w (i / 32)) (2 ^ (31 - i % 32)) 0)
 
 abbrev pub firstOf : ℕ → List ℕ → ℕ
-firstOf none-is [] = none-is
-firstOf none-is (i ∷ later) = i
+firstOf otherwise [] = otherwise
+firstOf otherwise (i ∷ later) = i
 
 -- the position of the first bit that is set in n words; past their end where none is
 unfoldable pub firstSet : ℕ → List ℕ → ℕ

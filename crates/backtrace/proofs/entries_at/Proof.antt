@@ -7,26 +7,20 @@ use Rattle.model.proofs.Shapes.{shape-is}
 use Rattle.backtrace.proofs.entries_at.Statement.{statement}
 use Rattle.backtrace.proofs.entries_at.Tie as tie
 
+place-requires : tie.Need-place-requires
+place-requires c κs = let s = c .before in omega (arith, few-edges _ _ (s .pre), few-links _ _ (s .pre))
+
 mul-result : tie.Need-mul-result
-mul-result c = let s = c .before in omega (arith, few-edges _ _ (s .pre))
-
-add-result : tie.Need-add-result
-add-result c = let s = c .before in omega (arith, few-edges _ _ (s .pre))
-
-mul-result-2 : tie.Need-mul-result-2
-mul-result-2 c = let s = c .before .before in omega (arith, few-links _ _ (s .pre))
-
-add-result-2 : tie.Need-add-result-2
-add-result-2 c = let s = c .before .before in omega (arith, few-edges _ _ (s .pre), few-links _ _ (s .pre))
+mul-result c = let s = c .before .before in omega (arith, c .place .ensures, few-edges _ _ (s .pre), few-links _ _ (s .pre))
 
 cast-result : tie.Need-cast-result
-cast-result c = let s = c .before .before in omega (arith, few-edges _ _ (s .pre), few-links _ _ (s .pre))
+cast-result c = let s = c .before .before in omega (arith, c .place .ensures, few-edges _ _ (s .pre), few-links _ _ (s .pre))
 
 returns : tie.Need-returns
 unfolding entriesAt
 returns c =
     let s = c .before .before in
-    rw (shape-is (now (s .args .file)) (s .args .shape) (s .pre)) (omega arith)
+    rw (c .place .ensures, shape-is (now (s .args .file)) (s .args .shape) (s .pre))
 
 pub entries-at-spec : {M : Type 1} → statement M
-entries-at-spec = tie.close (tie.spec mul-result add-result mul-result-2 add-result-2 cast-result returns)
+entries-at-spec = tie.close (tie.spec place-requires mul-result cast-result returns)
