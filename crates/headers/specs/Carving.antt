@@ -5,17 +5,17 @@ use mathlib.Core.Option.{Option, some, none}
 use Prim.Native.Nat.{ℕ, _+_}
 use lib.Bits.{bitAnd, bitOr}
 use Rattle.headers.specs.Bits.{word, words, complement, setBits, single, noBit}
-use Rattle.headers.specs.Sets.{Header, Set, overwrite, contains, overlaps}
+use Rattle.headers.specs.Sets.{Header, Set, overwritten, outside, contains, overlaps}
 
 -- "the bits .. that B cares for and P doesn't"
 abbrev pub free : ℕ → Set → Set → List ℕ
-free n p b = words n (λ w. bitAnd (word (b .care) w) (complement (word (p .care) w)))
+free n p b = outside n (p .care) (b .care)
 
 -- P caring for the bits of a mask too, with x's values there
 abbrev pub fixed : ℕ → List ℕ → List ℕ → Set → Set
 fixed n m x p = record {
   care = words n (λ w. bitOr (word (p .care) w) (word m w));
-  value = words n (λ w. overwrite (word m w) (word x w) (word (p .value) w));
+  value = overwritten n m x (p .value);
 }
 
 -- every word turned round
@@ -28,10 +28,7 @@ turned n b = record { care = b .care; value = opposite n (b .value) }
 
 -- P with the bits of a mask as in B: where B cares for them, this is `fixed`
 abbrev pub taking : ℕ → List ℕ → Set → Set → Set
-taking n m b p = record {
-  care = words n (λ w. overwrite (word m w) (word (b .care) w) (word (p .care) w));
-  value = words n (λ w. overwrite (word m w) (word (b .value) w) (word (p .value) w));
-}
+taking n m b p = record { care = overwritten n m (b .care) (p .care); value = overwritten n m (b .value) (p .value) }
 
 -- P with the bit at position i as in B
 abbrev pub like : ℕ → Set → Set → ℕ → Set

@@ -29,6 +29,14 @@ sameOn m a b = eqb (bitAnd a m) (bitAnd b m)
 abbrev pub overwrite : ℕ → ℕ → ℕ → ℕ
 overwrite m x a = bitOr (bitAnd a (complement m)) (bitAnd x m)
 
+-- the same word by word
+abbrev pub overwritten : ℕ → List ℕ → List ℕ → List ℕ → List ℕ
+overwritten n m x l = words n (λ w. overwrite (word m w) (word x w) (word l w))
+
+-- the bits outside a mask, word by word
+abbrev pub outside : ℕ → List ℕ → List ℕ → List ℕ
+outside n m l = words n (λ w. bitAnd (word l w) (complement (word m w)))
+
 -- "A header is in it if it equals the value on every care bit."
 abbrev pub contains : ℕ → Set → Header → Bool
 contains n s h = every n (λ w. sameOn (word (s .care) w) (word h w) (word (s .value) w))
@@ -83,7 +91,7 @@ among n (some s) h = contains n s h
 
 -- "masked bits become the value's, others stay"
 abbrev pub rewritten : ℕ → Rewrite → Header → Header
-rewritten n r h = words n (λ w. overwrite (word (r .mask) w) (word (r .value) w) (word h w))
+rewritten n r h = overwritten n (r .mask) (r .value) h
 
 -- the headers that have what a rewrite writes
 abbrev pub writes : Rewrite → Set
@@ -91,10 +99,7 @@ writes r = record { care = r .mask; value = r .value }
 
 -- a set with all bits of a mask wild
 abbrev pub widened : ℕ → List ℕ → Set → Set
-widened n m t = record {
-  care = words n (λ w. bitAnd (word (t .care) w) (complement (word m w)));
-  value = words n (λ w. bitAnd (word (t .value) w) (complement (word m w)));
-}
+widened n m t = record { care = outside n m (t .care); value = outside n m (t .value) }
 
 -- "empty if T cares for a masked bit and wants another value; else T with all masked bits wild"
 unfoldable pub undone : ℕ → Rewrite → Set → Option Set

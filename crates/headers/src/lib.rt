@@ -7,7 +7,7 @@ ghost use Prim.Native.Nat.{_-_, _/_, _%_, _^_, _≤_};
 ghost use lib.Count.{leadingZeros};
 ghost use lib.Dec.{eqb};
 ghost use Rattle.headers.specs.Bits.{noBit, firstSet, single};
-ghost use Rattle.headers.specs.Sets.{contains, tidy, overlaps, joined, intersection, rewritten, widened, undone, lowest, allWild, noRewrite, writes};
+ghost use Rattle.headers.specs.Sets.{outside, overwritten, contains, tidy, overlaps, joined, intersection, rewritten, widened, undone, lowest, allWild, noRewrite, writes};
 ghost use Rattle.headers.specs.Carving.{free, turned, taking, nextCut};
 ghost use Rattle.headers.specs.Forms.{setOf, rewriteOf, formOf, maybeOf, nextOf};
 
@@ -127,9 +127,10 @@ impl HeaderSet {
     {
         let c = self.care;
         let v = self.value;
-        let care = [c[0] & !m[0], c[1] & !m[1], c[2] & !m[2], c[3] & !m[3]];
-        let value = [v[0] & !m[0], v[1] & !m[1], v[2] & !m[2], v[3] & !m[3]];
-        HeaderSet { care, value }
+        HeaderSet {
+            care: outside(m, c),
+            value: outside(m, v),
+        }
     }
 
     // The bits that b cares for and this set doesn't.
@@ -138,7 +139,7 @@ impl HeaderSet {
     {
         let c = self.care;
         let d = b.care;
-        [d[0] & !c[0], d[1] & !c[1], d[2] & !c[2], d[3] & !c[3]]
+        outside(c, d)
     }
 
     // The set with every bit of its value turned round.
@@ -159,19 +160,10 @@ impl HeaderSet {
         let v = self.value;
         let d = b.care;
         let w = b.value;
-        let care = [
-            c[0] & !m[0] | d[0] & m[0],
-            c[1] & !m[1] | d[1] & m[1],
-            c[2] & !m[2] | d[2] & m[2],
-            c[3] & !m[3] | d[3] & m[3],
-        ];
-        let value = [
-            v[0] & !m[0] | w[0] & m[0],
-            v[1] & !m[1] | w[1] & m[1],
-            v[2] & !m[2] | w[2] & m[2],
-            v[3] & !m[3] | w[3] & m[3],
-        ];
-        HeaderSet { care, value }
+        HeaderSet {
+            care: overwritten(m, d, c),
+            value: overwritten(m, w, v),
+        }
     }
 
     // The first part of this set carved by b, which it overlaps. Carving goes on with `rest` in the set's place.
@@ -225,12 +217,7 @@ impl Action {
     {
         let m = self.mask;
         let v = self.value;
-        [
-            h[0] & !m[0] | v[0] & m[0],
-            h[1] & !m[1] | v[1] & m[1],
-            h[2] & !m[2] | v[2] & m[2],
-            h[3] & !m[3] | v[3] & m[3],
-        ]
+        overwritten(m, v, h)
     }
 
     // The headers that this action takes into t.
@@ -250,6 +237,27 @@ impl Action {
             }
         }
     }
+}
+
+// ---- word by word
+
+// The bits of x outside a mask.
+fn outside(m: [u32; 4], x: [u32; 4]) -> [u32; 4]
+    ensures { λ r. ⌜ r ≡ outside 4 m x ⌝ }
+{
+    [x[0] & !m[0], x[1] & !m[1], x[2] & !m[2], x[3] & !m[3]]
+}
+
+// The words of y with the bits of a mask taken from x.
+fn overwritten(m: [u32; 4], x: [u32; 4], y: [u32; 4]) -> [u32; 4]
+    ensures { λ r. ⌜ r ≡ overwritten 4 m x y ⌝ }
+{
+    [
+        y[0] & !m[0] | x[0] & m[0],
+        y[1] & !m[1] | x[1] & m[1],
+        y[2] & !m[2] | x[2] & m[2],
+        y[3] & !m[3] | x[3] & m[3],
+    ]
 }
 
 fn none_set(x: [u32; 4]) -> bool
