@@ -28,7 +28,7 @@ use Rattle.entries.proofs.InChains.{chain-head, chain-next, next-in-chain}
 use Rattle.entries.proofs.Beaters.{beaters-all}
 use Rattle.events.specs.Play.{play}
 use Rattle.events.specs.Asked.{budgetOf, floorOf, worldOf, playedOf, foundBy, findAt, UnitMade}
-use Rattle.backtrace.specs.Cycle.{Tracing, Traced, Kept, eventsAt, survivorEvents, eventsFrom, SameCounters}
+use Rattle.backtrace.specs.Cycle.{Tracing, Traced, Kept, eventsAt, survivorEvents, eventsFrom}
 use Rattle.backtrace.proofs.Places.{port-events}
 use Rattle.backtrace.proofs.Steps.{run, play-find, play-on, play-ended, unit-goes-on, unit-ends}
 use Rattle.backtrace.proofs.Paths.{kept-same, kept-on, kept-pushed, pushed-drop}
@@ -37,17 +37,16 @@ use Rattle.backtrace.proofs.Tracings.{after-unit, after-call}
 -- ---- where no entry is taken up
 
 -- the part is a find
-pub at-edge : {f ask counters₁ counters : List ℕ} (place d r : ℕ) (path : List ℕ) (t : Set) (counters₀ area₀ area : List ℕ)
-    → 4096 ≤ place → playedOf r counters₁ area ≡ foundBy f ask (findAt f (place - 4096) path d t) (worldOf counters₀ area₀)
-    → SameCounters counters₁ counters → (hops : ℕ) → Traced f ask (eventsAt f place t hops (drop d path)) counters₀ area₀ r counters area
+pub at-edge : {f ask counters : List ℕ} (place d r : ℕ) (path : List ℕ) (t : Set) (counters₀ area₀ area : List ℕ)
+    → 4096 ≤ place → playedOf r counters area ≡ foundBy f ask (findAt f (place - 4096) path d t) (worldOf counters₀ area₀)
+    → length counters ≡ 2 → (hops : ℕ) → Traced f ask (eventsAt f place t hops (drop d path)) counters₀ area₀ r counters area
 unfolding eventsAt
-at-edge {f} {ask} place d r path t counters₀ area₀ area l e s hops = record {
+at-edge {f} {ask} place d r path t counters₀ area₀ area l e two hops = record {
   played =
-      (λ i. record { status = r; world = record { made = s .made i; words = s .words i; area = area } })
-      ∙ e
+      e
       ∙ play-find (budgetOf ask) (foundBy f ask) (findAt f (place - 4096) path d t) (worldOf counters₀ area₀)
       ∙ ap (λ (es : List Event). run f ask es counters₀ area₀) (sym there);
-  counters-long = s .counters-long;
+  counters-long = two;
 }
   where
     there : eventsAt f place t hops (drop d path) ≡ find (findAt f (place - 4096) path d t) ∷ []

@@ -60,11 +60,3 @@ survivorEvents f e hops path = atInPort (fabricIn f) (stop (fabricIn f) hops) (i
 -- the events of such a part that is yet to be tried against the beaters from entry b on
 unfoldable pub eventsFrom : List ℕ → ℕ → ℕ → ℕ → List ℕ → Set → List Event
 eventsFrom f e b hops path p = carved (fabricIn f) (survivorEvents f e hops path) (beatersFrom (fabricIn f) e b) p
-
--- ---- the counters
-
--- the same counters, and they are two
-pub record SameCounters (counters₀ counters : List ℕ) : Type 0 where
-  pub counters-long : length counters ≡ 2
-  pub made : getD counters 0 0 ≡ getD counters₀ 0 0
-  pub words : getD counters 1 0 ≡ getD counters₀ 1 0

@@ -17,7 +17,7 @@ ghost use Rattle.model.specs.Model.{fabricIn, entriesAt};
 ghost use Rattle.index.specs.Index.{Index};
 ghost use Rattle.entries.specs.Entries.{IsEntry, IsBeater};
 ghost use Rattle.events.specs.Asked.{floorOf};
-ghost use Rattle.backtrace.specs.Cycle.{Tracing, Traced, Kept, IsPlace, eventsAt, eventsFrom, SameCounters};
+ghost use Rattle.backtrace.specs.Cycle.{Tracing, Traced, Kept, IsPlace, eventsAt, eventsFrom};
 ghost use Rattle.backtrace.specs.Pass.{playedThen, passOf};
 
 // How a pass ended (0 through, 1 the budget was used, 2 the verdict stops, 3 no room), the units made and the words of the finds.
@@ -35,14 +35,7 @@ const BASE: usize = 5;
 // A place from here on stands for an edge.
 const FIRST_EDGE: usize = 4096;
 
-// ---- the counters and the path
-
-// `found` does not promise that the counters that it leaves are two; stored again as they are, they are.
-fn two(counters: &mut [u64; 2])
-    ensures { λ _. ⌜ SameCounters (now (counters .entry)) (now (counters .exit)) ⌝ }
-{
-    *counters = [counters[0], counters[1]];
-}
+// ---- the path
 
 // Entry e at place k of the path.
 fn push(path: &mut [u32; 16], k: usize, e: usize)
@@ -73,9 +66,7 @@ fn stop<'a>(
     ensures { λ _. ⌜ Kept d (now (path .entry)) (now (path .exit)) ⌝ }
 {
     if FIRST_EDGE <= place {
-        let r = events::found(file, ask, area, place - FIRST_EDGE, t, d, path, counters);
-        two(counters);
-        return r;
+        return events::found(file, ask, area, place - FIRST_EDGE, t, d, path, counters);
     }
     if place == 0 {
         return 0;

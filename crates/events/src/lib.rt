@@ -103,6 +103,7 @@ fn count_find(d: usize, counters: &mut [u64; 2])
     requires { ⌜ length (now counters) ≡ 2 ⌝ }
     ensures { λ _. ⌜ getD (now (counters .exit)) 0 0 ≡ getD (now (counters .entry)) 0 0 ⌝ }
     ensures { λ _. ⌜ getD (now (counters .exit)) 1 0 ≡ countedOn (ltb (getD (now (counters .entry)) 1 0) tooMany) (getD (now (counters .entry)) 1 0) (25 - d) ⌝ }
+    ensures { λ _. ⌜ length (now (counters .exit)) ≡ 2 ⌝ }
 {
     let words = counters[1];
     if words < TOO_MANY {
@@ -161,6 +162,7 @@ fn list_find(
     requires { ⌜ Path (now path) d ⌝ }
     requires { ⌜ length (now counters) ≡ 2 ⌝ }
     ensures { λ r. ⌜ playedOf r (now (counters .exit)) (now (area .exit)) ≡ listed (findAt (now (file .entry)) k (now (path .entry)) d (setOf p)) (worldOf (now (counters .entry)) (now (area .entry))) ⌝ }
+    ensures { λ _. ⌜ length (now (counters .exit)) ≡ 2 ⌝ }
 {
     let at = counters[1];
     let words = words_of(d);
@@ -281,6 +283,7 @@ pub fn found(
     requires { ⌜ Path (now path) d ⌝ }
     requires { ⌜ Room (now ask) (now counters) (now area) ⌝ }
     ensures { λ r. ⌜ playedOf r (now (counters .exit)) (now (area .exit)) ≡ foundBy (now (file .entry)) (now (ask .entry)) (findAt (now (file .entry)) k (now (path .entry)) d (setOf p)) (worldOf (now (counters .entry)) (now (area .entry))) ⌝ }
+    ensures { λ _. ⌜ length (now (counters .exit)) ≡ 2 ⌝ }
 {
     let mode = ask[MODE];
     if mode == LIST {

@@ -3,7 +3,7 @@ use mathlib.Core.Bool.{Bool, true, false, _||_, cond}
 use mathlib.Core.List.{List, [], _∷_}
 use mathlib.Core.Option.{Option, some, none}
 use Prim.Native.Nat.{ℕ, _+_}
-use lib.Bits.{bitAnd, bitOr}
+use lib.Bits.{bitOr}
 use Rattle.headers.specs.Bits.{word, words, complement, setBits, single, noBit}
 use Rattle.headers.specs.Sets.{Header, Set, overwritten, outside, contains, overlaps}
 

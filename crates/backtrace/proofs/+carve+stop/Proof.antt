@@ -51,7 +51,6 @@ pub +carve+stop-spec : {M : Type 1} → statement M
     stop-met.stop-Inv-loop
     stop-met.stop-μ-loop
     (stop-met.found-requires t)
-    (stop-met.two-requires t)
     (stop-met.same-length t)
     (stop-met.returns t)
     (stop-met.returns-2 t)

@@ -24,10 +24,10 @@ element-write-counters c = search needs
 returns : tie.Need-returns
 returns c =
     let l : List ℕ = now (c .before .before .before .args .counters) in
-    (search needs, getD-set-same l 1 _ 0 (search needs) ∙ rw (lt-ltb _ _ (c .before .if1 .taken), c .words-of .ensures))
+    (search needs, (getD-set-same l 1 _ 0 (search needs) ∙ rw (lt-ltb _ _ (c .before .if1 .taken), c .words-of .ensures), search needs))
 
 returns-2 : tie.Need-returns-2
-returns-2 c = (search needs, rw (le-ltb _ _ (c .if1 .left)))
+returns-2 c = (search needs, (rw (le-ltb _ _ (c .if1 .left)), search needs))
 
 pub count-find-spec : {M : Type 1} → statement M
 count-find-spec =

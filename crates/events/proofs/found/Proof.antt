@@ -24,7 +24,7 @@ same-length c = search needs
 
 returns : tie.Need-returns
 unfolding foundBy
-returns c = rw (c .before .before .before .before .before .if1 .taken) (c .before .before .list-find .ensures)
+returns c = (rw (c .before .before .before .before .before .if1 .taken) (c .before .before .list-find .ensures .0), c .before .before .list-find .ensures .1)
 
 judge-requires : tie.Need-judge-requires
 judge-requires c κs =
@@ -36,7 +36,7 @@ same-length-2 c = search needs
 
 returns-2 : tie.Need-returns-2
 unfolding foundBy
-returns-2 c = rw (c .before .before .before .before .before .before .if2 .taken) (c .before .before .judge .ensures)
+returns-2 c = (rw (c .before .before .before .before .before .before .if2 .taken) (c .before .before .judge .ensures), search needs)
 
 count-find-requires : tie.Need-count-find-requires
 count-find-requires c κs = search needs
@@ -45,10 +45,12 @@ returns-3 : tie.Need-returns-3
 unfolding foundBy
 returns-3 c =
     let s = c .before .before .before .before .before .before .before in
-    let a = s .args in
-    rw (other-counts _ (now (a .file)) (targetOf (now (a .ask))) (c .before .before .before .if1 .left) (c .before .before .if2 .left))
-    (counted-is (s .pre .1 .1 .0) (now (a .file)) (a .k) (setOf (a .p)) (fours s .0) (fours s .1) refl (now (a .counters)) (now (a .area))
-    (c .count-find .last .1 .0) (c .count-find .ensures .0) (c .count-find .ensures .1))
+    let a = s .args in (
+      rw (other-counts _ (now (a .file)) (targetOf (now (a .ask))) (c .before .before .before .if1 .left) (c .before .before .if2 .left))
+          (counted-is (s .pre .1 .1 .0) (now (a .file)) (a .k) (setOf (a .p)) (fours s .0) (fours s .1) refl (now (a .counters)) (now (a .area))
+          (c .count-find .last .1 .0) (c .count-find .ensures .0) (c .count-find .ensures .1 .0)),
+      c .count-find .ensures .1 .1,
+    )
 
 pub found-spec : {M : Type 1} → statement M
 found-spec =

@@ -22,16 +22,20 @@ words-of-requires c κs = search needs
 returns : tie.Need-returns
 returns c =
     let s = c .before .before .before .before .before in
-    let a = s .args in
-    no-room (s .pre .1 .0) (now (a .file)) (a .k) (setOf (a .p)) (fours s .0) (fours s .1) (c .before .words-of .ensures) (now (a .counters)) (now (a .area))
-    (omega arith)
+    let a = s .args in (
+      no-room (s .pre .1 .0) (now (a .file)) (a .k) (setOf (a .p)) (fours s .0) (fours s .1) (c .before .words-of .ensures) (now (a .counters)) (now (a .area))
+          (omega arith),
+      search needs,
+    )
 
 returns-2 : tie.Need-returns-2
 returns-2 c =
     let s = c .before .before .before .before .before .before in
-    let a = s .args in
-    no-room (s .pre .1 .0) (now (a .file)) (a .k) (setOf (a .p)) (fours s .0) (fours s .1) (c .before .before .words-of .ensures) (now (a .counters)) (now (a .area))
-    (omega arith)
+    let a = s .args in (
+      no-room (s .pre .1 .0) (now (a .file)) (a .k) (setOf (a .p)) (fours s .0) (fours s .1) (c .before .before .words-of .ensures) (now (a .counters)) (now (a .area))
+          (omega arith),
+      search needs,
+    )
 
 port-at-requires : tie.Need-port-at-requires
 port-at-requires c κs = search needs
@@ -53,9 +57,11 @@ returns-3 c =
     let wrote = c .before .before in
     let words = wrote .before .before .before .before .before in
     let s = words .before .before .before .before in
-    let a = s .args in
-    listed-is (s .pre .1 .0) (now (a .file)) (a .k) (setOf (a .p)) (fours s .0) (fours s .1) (words .words-of .ensures) (now (a .counters)) (now (a .area))
-    (s .pre .1 .1) (omega arith) (rw (wrote .before .port-at .ensures) at (wrote .put-find .ensures))
+    let a = s .args in (
+      listed-is (s .pre .1 .0) (now (a .file)) (a .k) (setOf (a .p)) (fours s .0) (fours s .1) (words .words-of .ensures) (now (a .counters)) (now (a .area))
+          (s .pre .1 .1) (omega arith) (rw (wrote .before .port-at .ensures) at (wrote .put-find .ensures)),
+      search needs,
+    )
 
 pub list-find-spec : {M : Type 1} → statement M
 list-find-spec =

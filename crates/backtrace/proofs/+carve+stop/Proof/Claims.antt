@@ -16,7 +16,6 @@ use Rattle.events.proofs.asked.Reads as asked-reads
 use Rattle.events.proofs.found.Reads as found-reads
 use Rattle.events.proofs.unit.Reads as unit-reads
 use Rattle.backtrace.proofs.push.Reads as push-reads
-use Rattle.backtrace.proofs.two.Reads as two-reads
 use Rattle.backtrace.proofs.carve.Reads as carve
 use Rattle.backtrace.proofs.stop.Reads as stop
 use Rattle.backtrace.proofs.+carve+stop.Lts-carve as carve-lts
@@ -51,8 +50,6 @@ abbrev pub stop-claims : ℕ → stop-lts.Claims
 stop-claims t = (
   found-reads.Asked,
   found-reads.Learnt,
-  two-reads.Asked,
-  two-reads.Learnt,
   asked-reads.Asked,
   asked-reads.Learnt,
   first-out-reads.Asked,

@@ -35,19 +35,16 @@ module _ (t : ℕ) where
       let if1 = c .before .before .before .if1 in
       (pre .0 .asked, (pre .1 .edge (if1 .taken), (pre .0 .on-path, pre .0 .room)))
 
-  pub two-requires : Met stop-lts.Need-two-requires
-  two-requires c κs = search needs
-
   pub same-length : Met stop-lts.Need-same-length
   same-length c = search needs
 
   pub returns : Met stop-lts.Need-returns
   returns c =
-      let args = c .before .before .before .before .before .before .before .before .before .before .before .args in
-      let pre = c .before .before .before .before .before .before .before .before .before .before .before .pre .1 in
-      let if1 = c .before .before .before .before .before .before .before .before .if1 in
-      let found = c .before .before .before .before .found in
-      (at-edge _ (args .d) _ (now (args .path)) (setOf (args .t)) _ _ _ (if1 .taken) (found .ensures) (c .two .ensures) _, kept-same _ (pre .0 .on-path .long))
+      let args = c .before .before .before .before .before .before .before .before .before .args in
+      let pre = c .before .before .before .before .before .before .before .before .before .pre .1 in
+      let if1 = c .before .before .before .before .before .before .if1 in
+      let found = c .before .before .found in
+      (at-edge _ (args .d) _ (now (args .path)) (setOf (args .t)) _ _ _ (if1 .taken) (found .ensures .0) (found .ensures .1) _, kept-same _ (pre .0 .on-path .long))
 
   pub returns-2 : Met stop-lts.Need-returns-2
   returns-2 c =
