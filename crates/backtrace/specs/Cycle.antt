@@ -4,7 +4,7 @@ use mathlib.Core.List.{List, [], _∷_}
 use mathlib.Core.Path.{_≡_}
 use Prim.Native.Nat.{ℕ, _-_, _≤_}
 use lib.Dec.{leb}
-use lib.ListN.{length, getD, drop}
+use lib.ListN.{length, drop}
 use Rattle.headers.specs.Sets.{Set}
 use Rattle.records.specs.Records.{portOfEdge}
 use Rattle.file.specs.Accepted.{HasEdge}

@@ -15,10 +15,10 @@ use Rattle.records.proofs.Words.{words-from-fit, part-long, part-word, part-set
 use Rattle.questions.specs.Questions.{times, sized}
 use Rattle.questions.specs.Reading.{passedAt}
 use Rattle.questions.proofs.Lists.{none-has, rising, times-within, number-is}
+use Rattle.questions.proofs.Chains.{parts}
+use Rattle.questions.proofs.Yes.{yeses, EdgeIs, edge-is, LinkIs, link-is, EntryIs, entry-is}
 use Rattle.file.specs.Tables.{Indexed}
 use Rattle.file.specs.Accepted.{Accepted, Edge, Entry}
-use Rattle.file.proofs.Chains.{parts}
-use Rattle.file.proofs.Yes.{yeses, EdgeIs, edge-is, LinkIs, link-is, EntryIs, entry-is}
 use Rattle.file.proofs.Sound.{Sound, in-order, accepted-exactly}
 
 -- ---- the first word of a part is the file's

@@ -1,6 +1,4 @@
 pub mod Tables
-mod Chains
-mod Yes
 mod Steps
 mod Loops
 mod Whole

@@ -10,10 +10,10 @@ use Rattle.questions.specs.Questions.{latest, times}
 use Rattle.questions.specs.Reading.{passedAt, Here, askedAt}
 use Rattle.questions.specs.Tables.{Numbers, Counts}
 use Rattle.questions.proofs.Lists.{recent-more}
+use Rattle.questions.proofs.Yes.{yeses, EdgeIs, edge-is, LinkIs, link-is, EntryIs, entry-is}
 use Rattle.file.specs.Tables.{Empty}
 use Rattle.file.specs.Reading.{rest, RunRead}
 use Rattle.file.proofs.Tables.{zeros, numbered, counted}
-use Rattle.file.proofs.Yes.{yeses, EdgeIs, edge-is, LinkIs, link-is, EntryIs, entry-is}
 use Rattle.file.proofs.Steps.{stops, next-edge, next-link, next-entry}
 
 -- ---- what a loop has in hand

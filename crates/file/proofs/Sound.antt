@@ -17,8 +17,8 @@ use Rattle.questions.specs.Reading.{lastKind, passedAt, askedAt}
 use Rattle.questions.specs.declared.Read.{Read}
 use Rattle.questions.specs.declared.Read.the-variants.{Fabric}
 use Rattle.questions.proofs.Lists.{recent-long}
+use Rattle.questions.proofs.Yes.{yeses, Ordered, ordered}
 use Rattle.file.specs.Reading.{rest}
-use Rattle.file.proofs.Yes.{yeses, Ordered, ordered}
 use Rattle.file.proofs.Steps.{edge-passed, link-passed, entry-passed, next-edge, next-link, next-entry, ends-there}
 use Rattle.file.proofs.Whole.{no-entry-yet, no-link-yet, from-start}
 

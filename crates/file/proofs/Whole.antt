@@ -15,10 +15,10 @@ use Rattle.questions.specs.Reading.{lastKind, passedAt, Bounded, askedAt, endsA
 use Rattle.questions.specs.declared.Read.{Read}
 use Rattle.questions.specs.declared.Read.the-variants.{Fabric, No}
 use Rattle.questions.proofs.Asked.{up-to-entries}
+use Rattle.questions.proofs.Chains.{parts}
+use Rattle.questions.proofs.Yes.{Ordered, ordered}
 use Rattle.file.specs.Reading.{rest, RunRead}
 use Rattle.file.specs.Tables.{Tabled, Indexed}
-use Rattle.file.proofs.Chains.{parts}
-use Rattle.file.proofs.Yes.{Ordered, ordered}
 use Rattle.file.proofs.Steps.{stops, ends-there}
 
 -- ---- the last kind says what has not come yet

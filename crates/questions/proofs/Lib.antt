@@ -1,2 +1,4 @@
 pub mod Lists
+pub mod Chains
 pub mod Asked
+pub mod Yes

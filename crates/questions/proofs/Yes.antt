@@ -10,10 +10,10 @@ use Rattle.headers.specs.Sets.{tidy, writes}
 use Rattle.records.specs.Words.{wordAt, wordsIn, kindOf, portOf}
 use Rattle.records.specs.Records.{headerWords, admittedAt, edgeWords, matchAt, rewriteAt, entryWords, setFrom, rewriteFrom, placeOf, portOfEdge, fromOfLink, toOfLink, inOfEntry, recent}
 use Rattle.records.proofs.Words.{port-range, from-range}
 use Rattle.questions.specs.Questions.{latest, elem, times, byKind, _asks_, firstNo, Passed, kind, size, zeroBits, asked, inOrder, portsRight, setsTidy, linkFree, withinLimits}
 use Rattle.questions.specs.Reading.{passedAt}
 use Rattle.questions.proofs.Lists.{recent-long}
-use Rattle.file.proofs.Chains.{parts}
+use Rattle.questions.proofs.Chains.{parts}
 
 -- ---- five yeses
 
