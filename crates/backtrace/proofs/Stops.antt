@@ -19,6 +19,7 @@ use Rattle.forwarding.specs.BackTrace as BackTrace
 use Rattle.forwarding.specs.Trace.{Event, unit, find, stop, fromPort, takenUp, carved}
 use Rattle.model.specs.Model.{fabricIn}
 use Rattle.index.specs.Chains.{noEntry}
+use Rattle.index.specs.Index.{nextOut}
 use Rattle.index.proofs.Chained.{Next}
 use Rattle.entries.specs.Entries.{IsEntry, InChain, backFrom, NextBeater}
 use Rattle.entries.proofs.Those.{from, from-here, from-end, from-skip}
@@ -173,10 +174,10 @@ module _ {f ask index : List ℕ} {place : ℕ} {t : Set} {d : ℕ} {path₀ cou
   kept-under h k = kept-pushed path d e (let z = x .hop-left in omega arith) (x .tracing .on-path .long) (rw h at k)
 
   module _ (l : e < noEntry) where
-    next-entry : {n : ℕ} → n ≡ getD index (12288 + e) 0 → Next (outPortOf (fabricIn f)) (fabricIn f .entries) place (suc e) n
+    next-entry : {n : ℕ} → n ≡ getD index (nextOut + e) 0 → Next (outPortOf (fabricIn f)) (fabricIn f .entries) place (suc e) n
     next-entry {n} g = rw (x .in-chain .has-port l) at (chain-next few (x .tracing .indexed .by-out-port) e n (x .in-chain .is-entry l) g)
 
-    pub later-entry : {n : ℕ} → n ≡ getD index (12288 + e) 0 → e < n
+    pub later-entry : {n : ℕ} → n ≡ getD index (nextOut + e) 0 → e < n
     later-entry g = next-entry g .low
 
     left-is : left-from e ≡ unit ∷ (taken (BackTrace.back (fabricIn f) e t) ++ left-from (suc e))
@@ -203,7 +204,7 @@ module _ {f ask index : List ℕ} {place : ℕ} {t : Set} {d : ℕ} {path₀ cou
             ∙ x .left
 
         -- it takes nothing back
-        pub entry-empty : m .some ≡ false → {n : ℕ} → n ≡ getD index (12288 + e) 0 → AtEntry f ask index place t d path₀ counters₀ area₀ n path counters₁ area
+        pub entry-empty : m .some ≡ false → {n : ℕ} → n ≡ getD index (nextOut + e) 0 → AtEntry f ask index place t d path₀ counters₀ area₀ n path counters₁ area
         unfolding Option·elim
         entry-empty z {n} g = record {
           tracing = after-unit (x .tracing) u;
@@ -245,7 +246,7 @@ module _ {f ask index : List ℕ} {place : ℕ} {t : Set} {d : ℕ} {path₀ cou
             counters-long = w .counters-long;
           }
 
-          pub entry-through : r ≡ 0 → {n : ℕ} → n ≡ getD index (12288 + e) 0 → {path₂ : List ℕ} → Kept (d - 1) path₁ path₂ → length area₂ ≡ length area
+          pub entry-through : r ≡ 0 → {n : ℕ} → n ≡ getD index (nextOut + e) 0 → {path₂ : List ℕ} → Kept (d - 1) path₁ path₂ → length area₂ ≡ length area
               → AtEntry f ask index place t d path₀ counters₀ area₀ n path₂ counters₂ area₂
           entry-through z {n} g {path₂} k a = record {
             tracing = after-call (after-unit (x .tracing) u) w (kept-under pushed k) a;

@@ -2,16 +2,15 @@
 // play the events of the trace (specs/Cycle.antt). What is done with an event is in `events`, what an entry gives in `entries`.
 // They are handed an index of the file, so that they read no entry but those of the chain in hand, and references to the caller's
 // path and counters, so that a level of the descent copies no state.
-use entries::NO_ENTRY;
 use headers::HeaderSet;
+use index::NO_ENTRY;
 use records::Shape;
 ghost use mathlib.Core.Bool.{true};
 ghost use mathlib.Core.Path.{_≡_};
 ghost use Prim.Native.Nat.{_-_, _<_, _≤_};
 ghost use lib.ListN.{length, set, drop};
 ghost use Rattle.headers.specs.Forms.{setOf};
-ghost use Rattle.records.specs.Records.{portOfEdge, recent};
-ghost use Rattle.questions.specs.Tables.{Numbers};
+ghost use Rattle.questions.specs.Tables.{EdgeTable};
 ghost use Rattle.file.specs.Accepted.{Accepted};
 ghost use Rattle.model.specs.Model.{fabricIn, entriesAt};
 ghost use Rattle.index.specs.Index.{Index};
@@ -154,7 +153,7 @@ fn carve<'a>(
 // The group of the edge at a port.
 fn group_at(file: &[u8], shape: Shape, edge_of: &[u16; 4096], port: u32) -> u32
     requires { ⌜ Accepted (now file) shape ⌝ }
-    requires { ⌜ Numbers (recent (portOfEdge (now file)) (shape .edges)) (now «edge_of») ⌝ }
+    requires { ⌜ EdgeTable (now file) (shape .edges) (now «edge_of») ⌝ }
     requires { ⌜ fabricIn (now file) .isEdge port ≡ true ⌝ }
     ensures { λ r. ⌜ r ≡ fabricIn (now (file .entry)) .group port ⌝ }
 {
@@ -184,7 +183,7 @@ pub fn pass(
     asked: HeaderSet,
 ) -> Passed
     requires { ⌜ Accepted (now file) shape ⌝ }
-    requires { ⌜ Numbers (recent (portOfEdge (now file)) (shape .edges)) (now «edge_of») ⌝ }
+    requires { ⌜ EdgeTable (now file) (shape .edges) (now «edge_of») ⌝ }
     requires { ⌜ Index (now file) (now index) ⌝ }
     requires { ⌜ fabricIn (now file) .isEdge target ≡ true ⌝ }
     requires { ⌜ (1 ≤ limit) × (limit ≤ 16) ⌝ }

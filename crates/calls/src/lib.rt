@@ -8,8 +8,7 @@ ghost use Prim.Native.Nat.{_≤_};
 ghost use lib.ListN.{length};
 ghost use Rattle.headers.specs.Forms.{setOf};
 ghost use Rattle.answer.specs.Answer.{outcome, writtenAt};
-ghost use Rattle.records.specs.Records.{portOfEdge, fromOfLink, toOfLink, recent};
-ghost use Rattle.questions.specs.Tables.{Numbers};
+ghost use Rattle.questions.specs.Tables.{EdgeTable, StartTable, EndTable};
 ghost use Rattle.questions.specs.declared.Read.the-variants.{Fabric};
 ghost use Rattle.file.specs.Accepted.{Accepted};
 ghost use Rattle.forwarding.specs.Verdict.{isolated};
@@ -45,7 +44,7 @@ fn cares_for_all(s: HeaderSet) -> bool
 // Is the port an edge's? By the table of edges.
 fn is_edge(file: &[u8], shape: Shape, edge_of: &[u16; 4096], port: u32) -> bool
     requires { ⌜ Accepted (now file) shape ⌝ }
-    requires { ⌜ Numbers (recent (portOfEdge (now file)) (shape .edges)) (now «edge_of») ⌝ }
+    requires { ⌜ EdgeTable (now file) (shape .edges) (now «edge_of») ⌝ }
     ensures { λ r. ⌜ r ≡ fabricIn (now (file .entry)) .isEdge port ⌝ }
 {
     if 4096 <= port {
@@ -69,8 +68,8 @@ pub fn run_accepted(
     asked: HeaderSet,
 ) -> u64
     requires { ⌜ Accepted (now file) shape ⌝ }
-    requires { ⌜ Numbers (recent (portOfEdge (now file)) (shape .edges)) (now «edge_of») ⌝ }
-    requires { ⌜ Numbers (recent (fromOfLink (now file) (shape .edges)) (shape .links)) (now starts) ⌝ }
+    requires { ⌜ EdgeTable (now file) (shape .edges) (now «edge_of») ⌝ }
+    requires { ⌜ StartTable (now file) (shape .edges) (shape .links) (now starts) ⌝ }
     ensures { λ r. ⌜ outcome r (now (area .exit)) ≡ runAnswer (now (file .entry)) (query start limit budget (setOf asked)) (Fabric shape) (now (area .entry)) ⌝ }
 {
     let tidy = asked.is_tidy();
@@ -116,8 +115,8 @@ pub fn verdict_accepted(
     asked: HeaderSet,
 ) -> u64
     requires { ⌜ Accepted (now file) shape ⌝ }
-    requires { ⌜ Numbers (recent (portOfEdge (now file)) (shape .edges)) (now «edge_of») ⌝ }
-    requires { ⌜ Numbers (recent (toOfLink (now file) (shape .edges)) (shape .links)) (now ends) ⌝ }
+    requires { ⌜ EdgeTable (now file) (shape .edges) (now «edge_of») ⌝ }
+    requires { ⌜ EndTable (now file) (shape .edges) (shape .links) (now ends) ⌝ }
     ensures { λ r. ⌜ outcome r (now (area .exit)) ≡ verdictAnswer (now (file .entry)) (query target limit budget (setOf asked)) (Fabric shape) (now (area .entry)) ⌝ }
 {
     let edge = is_edge(file, shape, edge_of, target);
@@ -169,8 +168,8 @@ pub fn list_accepted(
     asked: HeaderSet,
 ) -> u64
     requires { ⌜ Accepted (now file) shape ⌝ }
-    requires { ⌜ Numbers (recent (portOfEdge (now file)) (shape .edges)) (now «edge_of») ⌝ }
-    requires { ⌜ Numbers (recent (toOfLink (now file) (shape .edges)) (shape .links)) (now ends) ⌝ }
+    requires { ⌜ EdgeTable (now file) (shape .edges) (now «edge_of») ⌝ }
+    requires { ⌜ EndTable (now file) (shape .edges) (shape .links) (now ends) ⌝ }
     ensures { λ r. ⌜ outcome r (now (area .exit)) ≡ listAnswer (now (file .entry)) (query target limit budget (setOf asked)) (Fabric shape) (now (area .entry)) ⌝ }
 {
     let edge = is_edge(file, shape, edge_of, target);

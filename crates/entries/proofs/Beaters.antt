@@ -14,7 +14,7 @@ use Rattle.forwarding.specs.Fabric.{Fabric, inPortOf, priorityOf, beats}
 use Rattle.forwarding.specs.BackTrace.{beaters}
 use Rattle.model.specs.Model.{AFabric, fabricIn}
 use Rattle.index.specs.Chains.{noEntry}
-use Rattle.index.specs.Index.{Index}
+use Rattle.index.specs.Index.{Index, firstIn, nextIn}
 use Rattle.index.proofs.Chained.{Next}
 use Rattle.entries.specs.Entries.{IsEntry, InChain, beatersFrom, IsBeater, NextBeater}
 use Rattle.entries.proofs.Those.{from-here, from-end, from-skip}
@@ -90,12 +90,12 @@ module _ {f : List ℕ} (a : AFabric f) {e b : ℕ} {x y : List ℕ} (i : IsEntr
 -- ---- the chain of an entry's in-port
 
 module _ {f cells : List ℕ} (a : AFabric f) (i : Index f cells) where
-  pub first-with : {e : ℕ} {x : List ℕ} → IsEntry f e x → (p r : ℕ) → p ≡ entryIn x → r ≡ getD cells (8192 + p) 0
+  pub first-with : {e : ℕ} {x : List ℕ} → IsEntry f e x → (p r : ℕ) → p ≡ entryIn x → r ≡ getD cells (firstIn + p) 0
       → Next (inPortOf (fabricIn f)) (fabricIn f .entries) (inPortOf (fabricIn f) e) 0 r
   first-with {e} k p r h d =
       rw (in-port-is a k, ← h) (chain-head (entries-few a) (i .by-in-port) p r (omega arith) d)
 
-  pub next-with : (b e r : ℕ) → b < fabricIn f .entries → inPortOf (fabricIn f) b ≡ inPortOf (fabricIn f) e → r ≡ getD cells (12800 + b) 0
+  pub next-with : (b e r : ℕ) → b < fabricIn f .entries → inPortOf (fabricIn f) b ≡ inPortOf (fabricIn f) e → r ≡ getD cells (nextIn + b) 0
       → Next (inPortOf (fabricIn f)) (fabricIn f .entries) (inPortOf (fabricIn f) e) (suc b) r
   next-with b e r l same d = rw (← same) (chain-next (entries-few a) (i .by-in-port) b r l d)
 

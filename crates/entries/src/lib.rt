@@ -2,6 +2,7 @@
 // their in-port. Document 01, "The back-trace and its count"; what is promised stands in specs/Entries.antt.
 use headers::HeaderSet;
 use headers::MaybeSet;
+use index::NO_ENTRY;
 ghost use mathlib.Core.Path.{_≡_};
 ghost use Prim.Native.Nat.{suc, _*_, _<_};
 ghost use lib.ListN.{length};
@@ -10,9 +11,6 @@ ghost use Rattle.records.specs.Records.{entryWords};
 ghost use Rattle.model.specs.Model.{fabricIn};
 ghost use Rattle.index.specs.Index.{Index};
 ghost use Rattle.entries.specs.Entries.{EntriesFrom, IsEntry, SameInPort, backFrom, IsBeater, NextBeater};
-
-// What stands for 'no entry', at the end of a chain.
-pub const NO_ENTRY: usize = 512;
 
 // An entry's own bytes.
 const ENTRY: usize = 4 * records::ENTRY;

@@ -7,8 +7,7 @@ ghost use mathlib.Core.Path.{_≡_};
 ghost use mathlib.Core.List.{[], _∷_};
 ghost use Rattle.headers.specs.Forms.{setOf};
 ghost use Rattle.answer.specs.Answer.{outcome};
-ghost use Rattle.records.specs.Records.{portOfEdge, fromOfLink, toOfLink, recent};
-ghost use Rattle.questions.specs.Tables.{Numbers};
+ghost use Rattle.questions.specs.Tables.{EdgeTable, StartTable, EndTable};
 ghost use Rattle.questions.specs.declared.Read.the-variants.{Fabric};
 ghost use Rattle.file.specs.Accepted.{Accepted};
 ghost use Rattle.calls.specs.Questions.{query};
@@ -41,9 +40,9 @@ fn answer_accepted(
     asked: HeaderSet,
 ) -> u64
     requires { ⌜ Accepted (now file) shape ⌝ }
-    requires { ⌜ Numbers (recent (portOfEdge (now file)) (shape .edges)) (now «edge_of») ⌝ }
-    requires { ⌜ Numbers (recent (fromOfLink (now file) (shape .edges)) (shape .links)) (now starts) ⌝ }
-    requires { ⌜ Numbers (recent (toOfLink (now file) (shape .edges)) (shape .links)) (now ends) ⌝ }
+    requires { ⌜ EdgeTable (now file) (shape .edges) (now «edge_of») ⌝ }
+    requires { ⌜ StartTable (now file) (shape .edges) (shape .links) (now starts) ⌝ }
+    requires { ⌜ EndTable (now file) (shape .edges) (shape .links) (now ends) ⌝ }
     ensures { λ r. ⌜ outcome r (now (area .exit)) ≡ answerOf call (now (file .entry)) (query port limit budget (setOf asked)) (Fabric shape) (now (area .entry)) ⌝ }
 {
     match call {

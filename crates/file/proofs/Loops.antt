@@ -8,7 +8,7 @@ use Rattle.records.specs.Words.{wordAt, wordsIn, kindOf, portOf, fromOf}
 use Rattle.records.specs.Records.{edgeWords, entryWords, placeOf, portOfEdge, fromOfLink, toOfLink, inOfEntry, recent}
 use Rattle.questions.specs.Questions.{latest, times}
 use Rattle.questions.specs.Reading.{passedAt, Here, askedAt}
-use Rattle.questions.specs.Tables.{Numbers, Counts}
+use Rattle.questions.specs.Tables.{Counts, EdgeTable, StartTable, EndTable}
 use Rattle.questions.proofs.Lists.{recent-more}
 use Rattle.questions.proofs.Yes.{yeses, EdgeIs, edge-is, LinkIs, link-is, EntryIs, entry-is}
 use Rattle.file.specs.Tables.{Empty}
@@ -27,13 +27,13 @@ pub record SoFar (f : List ℕ) (e₀ l₀ n₀ e l n place : ℕ) : Type 0 wher
 pub record EdgesSoFar (f : List ℕ) (e place last : ℕ) (edges : List ℕ) : Type 0 where
   pub so-far : SoFar f 0 0 0 e 0 0 place
   pub last-is : last ≡ latest (recent (portOfEdge f) e)
-  pub edge-at : Numbers (recent (portOfEdge f) e) edges
+  pub edge-at : EdgeTable f e edges
 
 pub record LinksSoFar (f : List ℕ) (e l place last : ℕ) (starts ends : List ℕ) : Type 0 where
   pub so-far : SoFar f e 0 0 e l 0 place
   pub last-is : last ≡ latest (recent (fromOfLink f e) l)
-  pub start-at : Numbers (recent (fromOfLink f e) l) starts
-  pub end-at : Numbers (recent (toOfLink f e) l) ends
+  pub start-at : StartTable f e l starts
+  pub end-at : EndTable f e l ends
 
 pub record EntriesSoFar (f : List ℕ) (e l n place : ℕ) (counts : List ℕ) : Type 0 where
   pub so-far : SoFar f e l 0 e l n place

@@ -1,8 +1,7 @@
 -- The tables by port that the reader of a file leaves. Assumes nothing.
 use mathlib.Core.List.{List, []}
 use Prim.Native.Nat.{ℕ}
-use Rattle.records.specs.Records.{portOfEdge, fromOfLink, toOfLink, recent}
-use Rattle.questions.specs.Tables.{Numbers}
+use Rattle.questions.specs.Tables.{Numbers, EdgeTable, StartTable, EndTable}
 use Rattle.questions.specs.declared.Read.{Read}
 use Rattle.questions.specs.declared.Read.the-variants.{Fabric, No}
 
@@ -11,9 +10,9 @@ Empty t = Numbers [] t
 
 -- the edge with a port, the link that starts there and the link that ends there
 pub record Indexed (f : List ℕ) (e l : ℕ) (edges starts ends : List ℕ) : Type 0 where
-  pub edge-at : Numbers (recent (portOfEdge f) e) edges
-  pub start-at : Numbers (recent (fromOfLink f e) l) starts
-  pub end-at : Numbers (recent (toOfLink f e) l) ends
+  pub edge-at : EdgeTable f e edges
+  pub start-at : StartTable f e l starts
+  pub end-at : EndTable f e l ends
 
 -- the tables of an accepted file
 abbrev pub Tabled : List ℕ → Read → List ℕ → List ℕ → List ℕ → Type 0

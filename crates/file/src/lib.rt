@@ -7,9 +7,9 @@ use records::Shape;
 ghost use mathlib.Core.Path.{_≡_};
 ghost use Prim.Native.Nat.{_<_, _≤_};
 ghost use Rattle.records.specs.Words.{wordsIn};
-ghost use Rattle.records.specs.Records.{placeOf, portOfEdge, fromOfLink, toOfLink, recent, edgeBytes, entryBytes};
+ghost use Rattle.records.specs.Records.{placeOf, fromOfLink, toOfLink, edgeBytes, entryBytes};
 ghost use Rattle.questions.specs.Questions.{accepted};
-ghost use Rattle.questions.specs.Tables.{Numbers};
+ghost use Rattle.questions.specs.Tables.{EdgeTable, StartTable, EndTable};
 ghost use Rattle.questions.specs.Reading.{Bounded};
 ghost use Rattle.questions.specs.declared.Read.the-variants.{No};
 ghost use Rattle.file.specs.Tables.{Empty, Tabled};
@@ -29,7 +29,7 @@ fn edges(file: &[u8], edge_of: &mut [u16; 4096]) -> Run
     requires { ⌜ Bounded (now file) ⌝ }
     requires { ⌜ Empty (now «edge_of») ⌝ }
     ensures { λ r. ⌜ RunRead (now (file .entry)) 2 0 0 0 (r .count) 0 0 (r .no) ⌝ }
-    ensures { λ r. ⌜ Numbers (recent (portOfEdge (now (file .entry))) (r .count)) (now («edge_of» .exit)) ⌝ }
+    ensures { λ r. ⌜ EdgeTable (now (file .entry)) (r .count) (now («edge_of» .exit)) ⌝ }
 {
     let words = file.len() / 4;
     let mut e: usize = 0;
@@ -62,12 +62,12 @@ fn links(
 ) -> Run
     requires { ⌜ Bounded (now file) ⌝ }
     requires { ⌜ placeOf e 0 0 ≤ wordsIn (now file) ⌝ }
-    requires { ⌜ Numbers (recent (portOfEdge (now file)) e) (now «edge_of») ⌝ }
+    requires { ⌜ EdgeTable (now file) e (now «edge_of») ⌝ }
     requires { ⌜ Empty (now starts) ⌝ }
     requires { ⌜ Empty (now ends) ⌝ }
     ensures { λ r. ⌜ RunRead (now (file .entry)) 3 e 0 0 e (r .count) 0 (r .no) ⌝ }
-    ensures { λ r. ⌜ Numbers (recent (fromOfLink (now (file .entry)) e) (r .count)) (now (starts .exit)) ⌝ }
-    ensures { λ r. ⌜ Numbers (recent (toOfLink (now (file .entry)) e) (r .count)) (now (ends .exit)) ⌝ }
+    ensures { λ r. ⌜ StartTable (now (file .entry)) e (r .count) (now (starts .exit)) ⌝ }
+    ensures { λ r. ⌜ EndTable (now (file .entry)) e (r .count) (now (ends .exit)) ⌝ }
 {
     let words = file.len() / 4;
     let mut l: usize = 0;

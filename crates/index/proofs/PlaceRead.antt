@@ -7,9 +7,9 @@ use native.Mathlib.Omega.{arith}
 use borrow.Author.Tests.{lt-ltb}
 use lib.Dec.{ltb}
 use lib.ListN.{getD}
-use Rattle.records.specs.Records.{portOfEdge, fromOfLink, toOfLink, recent}
+use Rattle.records.specs.Records.{portOfEdge, fromOfLink, toOfLink}
 use Rattle.records.specs.declared.Shape.{Shape}
-use Rattle.questions.specs.Tables.{Numbers}
+use Rattle.questions.specs.Tables.{EdgeTable, EndTable}
 use Rattle.file.specs.Accepted.{Accepted}
 use Rattle.file.proofs.Accepted.{few-edges}
 use Rattle.file.proofs.Tables.{found}
@@ -22,8 +22,8 @@ module _
     (s : Shape)
     (ok : Accepted f s)
     (edges ends : List ℕ)
-    (edge-at : Numbers (recent (portOfEdge f) (s .edges)) edges)
-    (end-at : Numbers (recent (toOfLink f (s .edges)) (s .links)) ends)
+    (edge-at : EdgeTable f (s .edges) edges)
+    (end-at : EndTable f (s .edges) (s .links) ends)
     (x : ℕ)
     (low : x < 4096)
   where

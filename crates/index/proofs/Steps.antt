@@ -14,7 +14,7 @@ use Rattle.forwarding.specs.Fabric.{inPortOf, outPortOf}
 use Rattle.model.specs.Model.{fabricIn}
 use Rattle.model.proofs.EntryRead.{EntryRead, entries-are}
 use Rattle.index.specs.Chains.{noEntry, Chain}
-use Rattle.index.specs.Index.{Index, placeAt}
+use Rattle.index.specs.Index.{Index, placeAt, firstOut, firstIn, nextOut, nextIn}
 use Rattle.index.specs.Building.{Placed, Partly, pushed}
 use Rattle.index.proofs.Chained.{chain-none, chain-more, chain-kept}
 
@@ -60,27 +60,27 @@ module _ (f : List ℕ) (s : Shape) (ok : Accepted f s) (cells : List ℕ) where
   partly-none p = subst (λ (n : ℕ). Partly f n cells) (entries-are f s ok) record {
     long = p .long;
     places = p .places;
-    by-out-port = chain-none _ _ 4096 12288 (omega arith) cells (λ x l. p .unused (4096 + x) (omega arith) (omega arith));
-    by-in-port = chain-none _ _ 8192 12800 (omega arith) cells (λ x l. p .unused (8192 + x) (omega arith) (omega arith));
+    by-out-port = chain-none _ _ firstOut nextOut (omega arith) cells (λ x l. p .unused (firstOut + x) (omega arith) (omega arith));
+    by-in-port = chain-none _ _ firstIn nextIn (omega arith) cells (λ x l. p .unused (firstIn + x) (omega arith) (omega arith));
   }
 
   -- entry e, with the bytes x, goes to the front of the chains of its ports, which leaves `one` and then `two`
   pub partly-more : (e : ℕ) (x : List ℕ) → EntryRead (fabricIn f) e x → (out into : ℕ) → out ≡ entryOut x → into ≡ entryIn x
-      → (one two : List ℕ) → one ≡ pushed cells (4096 + out) (12288 + e) e → two ≡ pushed one (8192 + into) (12800 + e) e
+      → (one two : List ℕ) → one ≡ pushed cells (firstOut + out) (nextOut + e) e → two ≡ pushed one (firstIn + into) (nextIn + e) e
       → Partly f (suc e) cells → Partly f e two
   partly-more e x read out into o i one two a b p =
       let few : fabricIn f .entries ≤ noEntry = omega (arith, few-entries f s ok, entries-are f s ok) in
-      let by-out : List ℕ = pushed cells (4096 + outPortOf (fabricIn f) e) (12288 + e) e in
+      let by-out : List ℕ = pushed cells (firstOut + outPortOf (fabricIn f) e) (nextOut + e) e in
       rw (b, a, o ∙ read .out-port, i ∙ read .in-port) record {
         long = simp length-set (p .long);
         places = λ y l.
-            push-below by-out (8192 + inPortOf (fabricIn f) e) _ e y (omega arith) (omega arith)
+            push-below by-out (firstIn + inPortOf (fabricIn f) e) _ e y (omega arith) (omega arith)
             ∙ push-below cells _ _ e y (omega arith) (omega arith)
             ∙ p .places y l;
-        by-out-port = push-kept _ _ 4096 12288 e by-out _ _ e (λ y l. omega arith) (λ y l. omega arith)
-            (chain-more _ _ 4096 12288 (omega arith) cells e (read .number) (omega arith) (omega arith) (p .by-out-port));
-        by-in-port = chain-more _ _ 8192 12800 (omega arith) by-out e (read .number) (omega arith) (simp length-set (omega arith))
-            (push-kept _ _ 8192 12800 (suc e) cells _ _ e (λ y l. omega arith) (λ y l. omega arith) (p .by-in-port));
+        by-out-port = push-kept _ _ firstOut nextOut e by-out _ _ e (λ y l. omega arith) (λ y l. omega arith)
+            (chain-more _ _ firstOut nextOut (omega arith) cells e (read .number) (omega arith) (omega arith) (p .by-out-port));
+        by-in-port = chain-more _ _ firstIn nextIn (omega arith) by-out e (read .number) (omega arith) (simp length-set (omega arith))
+            (push-kept _ _ firstIn nextIn (suc e) cells _ _ e (λ y l. omega arith) (λ y l. omega arith) (p .by-in-port));
       }
 
 -- with all entries chained the index is made

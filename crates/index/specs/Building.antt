@@ -6,7 +6,7 @@ use lib.ListN.{length, getD, set}
 use Rattle.forwarding.specs.Fabric.{inPortOf, outPortOf}
 use Rattle.model.specs.Model.{fabricIn}
 use Rattle.index.specs.Chains.{noEntry, Chain}
-use Rattle.index.specs.Index.{placeAt}
+use Rattle.index.specs.Index.{placeAt, firstOut, firstIn, nextOut, nextIn}
 
 -- the places of the ports below x are stored, and every other cell holds 'no entry'
 pub record Placed (f : List ℕ) (x : ℕ) (cells : List ℕ) : Type 0 where
@@ -18,8 +18,8 @@ pub record Placed (f : List ℕ) (x : ℕ) (cells : List ℕ) : Type 0 where
 pub record Partly (f : List ℕ) (from : ℕ) (cells : List ℕ) : Type 0 where
   pub long : length cells ≡ 13312
   pub places : (x : ℕ) → x < 4096 → getD cells x 0 ≡ placeAt f x
-  pub by-out-port : Chain (fabricIn f .entries) (outPortOf (fabricIn f)) 4096 12288 from cells
-  pub by-in-port : Chain (fabricIn f .entries) (inPortOf (fabricIn f)) 8192 12800 from cells
+  pub by-out-port : Chain (fabricIn f .entries) (outPortOf (fabricIn f)) firstOut nextOut from cells
+  pub by-in-port : Chain (fabricIn f .entries) (inPortOf (fabricIn f)) firstIn nextIn from cells
 
 -- entry e at the front of a chain: cell `first` has it, and cell `next` what was the front before
 abbrev pub pushed : List ℕ → ℕ → ℕ → ℕ → List ℕ

@@ -13,11 +13,22 @@ use Rattle.index.specs.Chains.{Chain}
 unfoldable pub placeAt : List ℕ → ℕ → ℕ
 placeAt f x = cond (fabricIn f .isEdge x) (4095 + edgeAt f (shapeIn f) x) (fabricIn f .linkFrom x)
 
--- cells 0 to 4,095 by port: where a part at this in-port comes from
--- 4,096 to 8,191 by port: the first entry with this out-port; 8,192 to 12,287: the first with this in-port
--- 12,288 to 12,799 by entry: the next with its out-port; 12,800 to 13,311: the next with its in-port
+-- the cells, after the 4,096 of the places: by port the first entry with this out-port, and with this in-port; by entry the next with
+-- its out-port, and with its in-port
+abbrev pub firstOut : ℕ
+firstOut = 4096
+
+abbrev pub firstIn : ℕ
+firstIn = 8192
+
+abbrev pub nextOut : ℕ
+nextOut = 12288
+
+abbrev pub nextIn : ℕ
+nextIn = 12800
+
 pub record Index (f cells : List ℕ) : Type 0 where
   pub long : length cells ≡ 13312
   pub places : (x : ℕ) → x < 4096 → getD cells x 0 ≡ placeAt f x
-  pub by-out-port : Chain (fabricIn f .entries) (outPortOf (fabricIn f)) 4096 12288 0 cells
-  pub by-in-port : Chain (fabricIn f .entries) (inPortOf (fabricIn f)) 8192 12800 0 cells
+  pub by-out-port : Chain (fabricIn f .entries) (outPortOf (fabricIn f)) firstOut nextOut 0 cells
+  pub by-in-port : Chain (fabricIn f .entries) (inPortOf (fabricIn f)) firstIn nextIn 0 cells

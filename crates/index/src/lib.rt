@@ -3,11 +3,25 @@ use records::Shape;
 ghost use mathlib.Core.Path.{_≡_};
 ghost use Prim.Native.Nat.{suc, _+_, _-_, _≤_, _<_};
 ghost use lib.ListN.{getD};
-ghost use Rattle.records.specs.Records.{portOfEdge, fromOfLink, toOfLink, recent};
-ghost use Rattle.questions.specs.Tables.{Numbers};
+ghost use Rattle.records.specs.Records.{fromOfLink};
+ghost use Rattle.questions.specs.Tables.{EdgeTable, EndTable};
 ghost use Rattle.file.specs.Accepted.{Accepted};
-ghost use Rattle.index.specs.Index.{Index, placeAt};
+ghost use Rattle.index.specs.Index.{Index, placeAt, firstOut, firstIn, nextOut, nextIn};
 ghost use Rattle.index.specs.Building.{Placed, Partly, pushed};
+
+// What stands for 'no entry', at the end of a chain.
+pub const NO_ENTRY: usize = 512;
+
+// Where the index's parts after the places begin: the first entry with an out-port, with an in-port, and the next entry likewise.
+const FIRST_OUT: usize = 4096;
+
+const FIRST_IN: usize = 8192;
+
+const NEXT_OUT: usize = 12288;
+
+const NEXT_IN: usize = 12800;
+
+// ---- making the index
 
 // The from-port of the link with the number l, which counts from 1.
 fn from_port(file: &[u8], shape: Shape, l: u16) -> u16
@@ -22,8 +36,8 @@ fn from_port(file: &[u8], shape: Shape, l: u16) -> u16
 // Where a part at in-port x comes from. The tables' numbers count from 1, so 4,095 more is 4,096 + k at edge k.
 fn place(file: &[u8], shape: Shape, edge_of: &[u16; 4096], ends: &[u16; 4096], x: usize) -> u16
     requires { ⌜ Accepted (now file) shape ⌝ }
-    requires { ⌜ Numbers (recent (portOfEdge (now file)) (shape .edges)) (now «edge_of») ⌝ }
-    requires { ⌜ Numbers (recent (toOfLink (now file) (shape .edges)) (shape .links)) (now ends) ⌝ }
+    requires { ⌜ EdgeTable (now file) (shape .edges) (now «edge_of») ⌝ }
+    requires { ⌜ EndTable (now file) (shape .edges) (shape .links) (now ends) ⌝ }
     requires { ⌜ x < 4096 ⌝ }
     ensures { λ r. ⌜ r ≡ placeAt (now (file .entry)) x ⌝ }
 {
@@ -47,8 +61,8 @@ fn places(
     index: &mut [u16; 13312],
 )
     requires { ⌜ Accepted (now file) shape ⌝ }
-    requires { ⌜ Numbers (recent (portOfEdge (now file)) (shape .edges)) (now «edge_of») ⌝ }
-    requires { ⌜ Numbers (recent (toOfLink (now file) (shape .edges)) (shape .links)) (now ends) ⌝ }
+    requires { ⌜ EdgeTable (now file) (shape .edges) (now «edge_of») ⌝ }
+    requires { ⌜ EndTable (now file) (shape .edges) (shape .links) (now ends) ⌝ }
     requires { ⌜ Placed (now file) 0 (now index) ⌝ }
     ensures { λ _. ⌜ Placed (now (file .entry)) 4096 (now (index .exit)) ⌝ }
 {
@@ -80,8 +94,8 @@ fn chain_entry(file: &[u8], shape: Shape, e: usize, index: &mut [u16; 13312])
     let x = file::entry(file, shape, e);
     let out = records::out_port(x) as usize;
     let into = records::in_port(x) as usize;
-    push(index, 4096 + out, 12288 + e, e);
-    push(index, 8192 + into, 12800 + e, e);
+    push(index, FIRST_OUT + out, NEXT_OUT + e, e);
+    push(index, FIRST_IN + into, NEXT_IN + e, e);
 }
 
 // The chains, from the last entry to the first, so that each runs in file order.
@@ -100,8 +114,8 @@ fn chains(file: &[u8], shape: Shape, index: &mut [u16; 13312])
 // The index of an accepted file, from its tables of edges and of link ends.
 pub fn build(file: &[u8], shape: Shape, edge_of: &[u16; 4096], ends: &[u16; 4096]) -> [u16; 13312]
     requires { ⌜ Accepted (now file) shape ⌝ }
-    requires { ⌜ Numbers (recent (portOfEdge (now file)) (shape .edges)) (now «edge_of») ⌝ }
-    requires { ⌜ Numbers (recent (toOfLink (now file) (shape .edges)) (shape .links)) (now ends) ⌝ }
+    requires { ⌜ EdgeTable (now file) (shape .edges) (now «edge_of») ⌝ }
+    requires { ⌜ EndTable (now file) (shape .edges) (shape .links) (now ends) ⌝ }
     ensures { λ r. ⌜ Index (now (file .entry)) r ⌝ }
 {
     let mut index = [512u16; 13312];
@@ -130,31 +144,31 @@ pub fn place_at(index: &[u16; 13312], port: usize) -> usize
 // The first entry with this out-port.
 pub fn first_out(index: &[u16; 13312], port: usize) -> usize
     requires { ⌜ port < 4096 ⌝ }
-    ensures { λ r. ⌜ r ≡ getD (now (index .entry)) (4096 + port) 0 ⌝ }
+    ensures { λ r. ⌜ r ≡ getD (now (index .entry)) (firstOut + port) 0 ⌝ }
 {
-    wide(index[4096 + port])
+    wide(index[FIRST_OUT + port])
 }
 
 // The first entry with this in-port.
 pub fn first_in(index: &[u16; 13312], port: usize) -> usize
     requires { ⌜ port < 4096 ⌝ }
-    ensures { λ r. ⌜ r ≡ getD (now (index .entry)) (8192 + port) 0 ⌝ }
+    ensures { λ r. ⌜ r ≡ getD (now (index .entry)) (firstIn + port) 0 ⌝ }
 {
-    wide(index[8192 + port])
+    wide(index[FIRST_IN + port])
 }
 
 // The next entry with the out-port of entry e.
 pub fn next_out(index: &[u16; 13312], e: usize) -> usize
     requires { ⌜ e < 512 ⌝ }
-    ensures { λ r. ⌜ r ≡ getD (now (index .entry)) (12288 + e) 0 ⌝ }
+    ensures { λ r. ⌜ r ≡ getD (now (index .entry)) (nextOut + e) 0 ⌝ }
 {
-    wide(index[12288 + e])
+    wide(index[NEXT_OUT + e])
 }
 
 // The next entry with the in-port of entry e.
 pub fn next_in(index: &[u16; 13312], e: usize) -> usize
     requires { ⌜ e < 512 ⌝ }
-    ensures { λ r. ⌜ r ≡ getD (now (index .entry)) (12800 + e) 0 ⌝ }
+    ensures { λ r. ⌜ r ≡ getD (now (index .entry)) (nextIn + e) 0 ⌝ }
 {
-    wide(index[12800 + e])
+    wide(index[NEXT_IN + e])
 }

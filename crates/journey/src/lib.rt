@@ -4,8 +4,7 @@ ghost use mathlib.Core.Path.{_≡_};
 ghost use Prim.Native.Nat.{_≤_, _<_};
 ghost use lib.ListN.{length};
 ghost use Rattle.answer.specs.Answer.{writtenAt};
-ghost use Rattle.records.specs.Records.{fromOfLink, recent};
-ghost use Rattle.questions.specs.Tables.{Numbers};
+ghost use Rattle.questions.specs.Tables.{StartTable};
 ghost use Rattle.file.specs.Accepted.{Accepted};
 ghost use Rattle.forwarding.specs.Run.{run};
 ghost use Rattle.model.specs.Model.{fabricIn};
@@ -29,7 +28,7 @@ fn size(x: u16) -> usize
 // The to-port of the link from port o; 0 where there is none.
 fn link_after(file: &[u8], shape: Shape, starts: &[u16; 4096], o: u32) -> u32
     requires { ⌜ Accepted (now file) shape ⌝ }
-    requires { ⌜ Numbers (recent (fromOfLink (now file) (shape .edges)) (shape .links)) (now starts) ⌝ }
+    requires { ⌜ StartTable (now file) (shape .edges) (shape .links) (now starts) ⌝ }
     requires { ⌜ o < 4096 ⌝ }
     ensures { λ r. ⌜ r ≡ fabricIn (now (file .entry)) .linkTo o ⌝ }
 {
@@ -43,7 +42,7 @@ fn link_after(file: &[u8], shape: Shape, starts: &[u16; 4096], o: u32) -> u32
 // One hop, if the packet is still travelling.
 fn hop(file: &[u8], shape: Shape, starts: &[u16; 4096], j: Journey) -> Journey
     requires { ⌜ Accepted (now file) shape ⌝ }
-    requires { ⌜ Numbers (recent (fromOfLink (now file) (shape .edges)) (shape .links)) (now starts) ⌝ }
+    requires { ⌜ StartTable (now file) (shape .edges) (shape .links) (now starts) ⌝ }
     requires { ⌜ j .hops < 16 ⌝ }
     ensures { λ r. ⌜ Hopped (fabricIn (now (file .entry))) j r ⌝ }
 {
@@ -106,7 +105,7 @@ pub fn travel(
     header: [u32; 4],
 ) -> Journey
     requires { ⌜ Accepted (now file) shape ⌝ }
-    requires { ⌜ Numbers (recent (fromOfLink (now file) (shape .edges)) (shape .links)) (now starts) ⌝ }
+    requires { ⌜ StartTable (now file) (shape .edges) (shape .links) (now starts) ⌝ }
     requires { ⌜ limit ≤ 16 ⌝ }
     ensures { λ r. ⌜ r ≡ journeyOf (run (fabricIn (now (file .entry))) limit start header) ⌝ }
 {

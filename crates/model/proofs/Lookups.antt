@@ -7,9 +7,9 @@ use native.Mathlib.Omega.{arith}
 use lib.Dec.{ltb}
 use lib.ListN.{getD}
 use Rattle.headers.proofs.Booleans.{refuted}
-use Rattle.records.specs.Records.{edgeGroup, portOfEdge, fromOfLink, toOfLink, recent, edgeBytes}
+use Rattle.records.specs.Records.{edgeGroup, fromOfLink, toOfLink, edgeBytes}
 use Rattle.records.specs.declared.Shape.{Shape}
-use Rattle.questions.specs.Tables.{Numbers}
+use Rattle.questions.specs.Tables.{EdgeTable, StartTable}
 use Rattle.questions.proofs.Lists.{number-has}
 use Rattle.file.specs.Accepted.{Accepted}
 use Rattle.file.proofs.Accepted.{edge-port-low}
@@ -24,7 +24,7 @@ module _ (f : List ℕ) (s : Shape) (ok : Accepted f s) where
       let d = edge-there f s x e in
       omega (arith, d .port-is)
 
-  pub edge-looked-up : (t : List ℕ) → Numbers (recent (portOfEdge f) (s .edges)) t → (x : ℕ) → x < 4096 → ltb 0 (getD t x 0) ≡ fabricIn f .isEdge x
+  pub edge-looked-up : (t : List ℕ) → EdgeTable f (s .edges) t → (x : ℕ) → x < 4096 → ltb 0 (getD t x 0) ≡ fabricIn f .isEdge x
   unfolding fabricOf edgeAt
   edge-looked-up t T x l = ap (ltb 0) (T .holds x l) ∙ sym (ap (λ (F : Forwarding.Fabric). F .isEdge x) (fabric-is f s ok))
 
@@ -37,7 +37,7 @@ module _ (f : List ℕ) (s : Shape) (ok : Accepted f s) where
     pub high : x < 4096
     pub group-is : fabricIn f .group x ≡ edgeGroup (edgeBytes f edge)
 
-  pub edge-found : (t : List ℕ) → Numbers (recent (portOfEdge f) (s .edges)) t → (x : ℕ) → fabricIn f .isEdge x ≡ true → EdgeFound t x
+  pub edge-found : (t : List ℕ) → EdgeTable f (s .edges) t → (x : ℕ) → fabricIn f .isEdge x ≡ true → EdgeFound t x
   unfolding fabricOf edgeAt
   edge-found t T x e =
       let d = edge-there f s x (ap (λ (F : Forwarding.Fabric). F .isEdge x) (sym (fabric-is f s ok)) ∙ e) in
@@ -51,7 +51,7 @@ module _ (f : List ℕ) (s : Shape) (ok : Accepted f s) where
         group-is = ap (λ (F : Forwarding.Fabric). F .group x) (fabric-is f s ok) ∙ ap (under 0 (λ i. edgeGroup (edgeBytes f i))) (d .at-is);
       }
 
-  module _ (t : List ℕ) (T : Numbers (recent (fromOfLink f (s .edges)) (s .links)) t) (x : ℕ) (l : x < 4096) where
+  module _ (t : List ℕ) (T : StartTable f (s .edges) (s .links) t) (x : ℕ) (l : x < 4096) where
     link-under : fabricIn f .linkTo x ≡ under 0 (toOfLink f (s .edges)) (getD t x 0)
     unfolding fabricOf linkBeginning
     link-under =

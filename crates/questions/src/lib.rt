@@ -12,9 +12,9 @@ ghost use mathlib.Core.Path.{_≡_};
 ghost use Prim.Native.Nat.{_+_, _≤_};
 ghost use Rattle.headers.specs.Sets.{tidy};
 ghost use Rattle.records.specs.Words.{wordsIn};
-ghost use Rattle.records.specs.Records.{headerWords, setWords, setFrom, placeOf, portOfEdge, fromOfLink, toOfLink, inOfEntry, recent};
+ghost use Rattle.records.specs.Records.{headerWords, setWords, setFrom, placeOf, portOfEdge, fromOfLink, inOfEntry, recent};
 ghost use Rattle.questions.specs.Questions.{pick, latest, firstNo, _asks_, sized, started};
-ghost use Rattle.questions.specs.Tables.{Numbers, Counts};
+ghost use Rattle.questions.specs.Tables.{Counts, EdgeTable, EndTable};
 ghost use Rattle.questions.specs.Reading.{Bounded, Here, askedAt, endsAt};
 
 // The fabric's shape, or the number and the place of the first no.
@@ -77,8 +77,8 @@ pub fn link_no(
 ) -> u32
     requires { ⌜ Here (now file) e l 0 3 w ⌝ }
     requires { ⌜ last ≡ latest (recent (fromOfLink (now file) e) l) ⌝ }
-    requires { ⌜ Numbers (recent (portOfEdge (now file)) e) (now «edge_of») ⌝ }
-    requires { ⌜ Numbers (recent (toOfLink (now file) e) l) (now ends) ⌝ }
+    requires { ⌜ EdgeTable (now file) e (now «edge_of») ⌝ }
+    requires { ⌜ EndTable (now file) e l (now ends) ⌝ }
     ensures { λ r. ⌜ r ≡ askedAt (now (file .entry)) e l 0 ⌝ }
 {
     let from = records::from_of(w);
