@@ -3,9 +3,8 @@ use mathlib.Core.Bool.{Bool, true, false, _||_, cond}
 use mathlib.Core.List.{List, [], _∷_}
 use mathlib.Core.Option.{Option, some, none}
 use Prim.Native.Nat.{ℕ, _+_}
-use lib.Bits.{bitOr}
 use Rattle.headers.specs.Bits.{word, words, complement, setBits, single, noBit}
-use Rattle.headers.specs.Sets.{Header, Set, overwritten, outside, contains, overlaps}
+use Rattle.headers.specs.Sets.{Header, Set, overwritten, outside, either, contains, overlaps}
 
 -- "the bits .. that B cares for and P doesn't"
 abbrev pub free : ℕ → Set → Set → List ℕ
@@ -13,10 +12,7 @@ free n p b = outside n (p .care) (b .care)
 
 -- P caring for the bits of a mask too, with x's values there
 abbrev pub fixed : ℕ → List ℕ → List ℕ → Set → Set
-fixed n m x p = record {
-  care = words n (λ w. bitOr (word (p .care) w) (word m w));
-  value = overwritten n m x (p .value);
-}
+fixed n m x p = record { care = either n (p .care) m; value = overwritten n m x (p .value) }
 
 -- every word turned round
 abbrev pub opposite : ℕ → List ℕ → List ℕ

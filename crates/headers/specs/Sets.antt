@@ -29,17 +29,29 @@ sameOn m a b = eqb (bitAnd a m) (bitAnd b m)
 abbrev pub overwrite : ℕ → ℕ → ℕ → ℕ
 overwrite m x a = bitOr (bitAnd a (complement m)) (bitAnd x m)
 
--- the same word by word
+-- ---- the same word by word
+
+abbrev pub agree : ℕ → List ℕ → List ℕ → List ℕ → Bool
+agree n m a b = every n (λ w. sameOn (word m w) (word a w) (word b w))
+
 abbrev pub overwritten : ℕ → List ℕ → List ℕ → List ℕ → List ℕ
 overwritten n m x l = words n (λ w. overwrite (word m w) (word x w) (word l w))
 
--- the bits outside a mask, word by word
+-- the bits outside a mask
 abbrev pub outside : ℕ → List ℕ → List ℕ → List ℕ
 outside n m l = words n (λ w. bitAnd (word l w) (complement (word m w)))
 
+abbrev pub both : ℕ → List ℕ → List ℕ → List ℕ
+both n a b = words n (λ w. bitAnd (word a w) (word b w))
+
+abbrev pub either : ℕ → List ℕ → List ℕ → List ℕ
+either n a b = words n (λ w. bitOr (word a w) (word b w))
+
+-- ---- sets
+
 -- "A header is in it if it equals the value on every care bit."
 abbrev pub contains : ℕ → Set → Header → Bool
-contains n s h = every n (λ w. sameOn (word (s .care) w) (word h w) (word (s .value) w))
+contains n s h = agree n (s .care) h (s .value)
 
 -- "Value bits outside care are 0."
 abbrev pub tidy : ℕ → Set → Bool
@@ -73,10 +85,7 @@ overlaps n a b =
 
 -- "care is the OR, value the OR"
 abbrev pub joined : ℕ → Set → Set → Set
-joined n a b = record {
-  care = words n (λ w. bitOr (word (a .care) w) (word (b .care) w));
-  value = words n (λ w. bitOr (word (a .value) w) (word (b .value) w));
-}
+joined n a b = record { care = either n (a .care) (b .care); value = either n (a .value) (b .value) }
 
 -- "empty if the two values differ on a bit that both care for"; `none` is document 01's 'empty'
 unfoldable pub intersection : ℕ → Set → Set → Option Set
@@ -109,7 +118,7 @@ undone n r t = cond (overlaps n t (writes r)) (some (widened n (r .mask) t)) non
 
 -- "lowest header (wild bits 0)"
 abbrev pub lowest : ℕ → Set → Header
-lowest n s = words n (λ w. bitAnd (word (s .value) w) (word (s .care) w))
+lowest n s = both n (s .value) (s .care)
 
 -- g comes before h in document 01's bit order: at the first bit where they differ, g has 0
 pub record Lower (n : ℕ) (g h : Header) : Type 0 where

@@ -7,7 +7,7 @@ ghost use Prim.Native.Nat.{_-_, _/_, _%_, _^_, _≤_};
 ghost use lib.Count.{leadingZeros};
 ghost use lib.Dec.{eqb};
 ghost use Rattle.headers.specs.Bits.{noBit, firstSet, single};
-ghost use Rattle.headers.specs.Sets.{outside, overwritten, contains, tidy, overlaps, joined, intersection, rewritten, widened, undone, lowest, allWild, noRewrite, writes};
+ghost use Rattle.headers.specs.Sets.{agree, overwritten, outside, both, either, contains, tidy, overlaps, joined, intersection, rewritten, widened, undone, lowest, allWild, noRewrite, writes};
 ghost use Rattle.headers.specs.Carving.{free, turned, taking, nextCut};
 ghost use Rattle.headers.specs.Forms.{setOf, rewriteOf, formOf, maybeOf, nextOf};
 
@@ -54,7 +54,7 @@ impl HeaderSet {
     {
         let c = self.care;
         let v = self.value;
-        (v[0] & !c[0] == 0) & (v[1] & !c[1] == 0) & (v[2] & !c[2] == 0) & (v[3] & !c[3] == 0)
+        none_set(outside(c, v))
     }
 
     pub fn contains(self, h: [u32; 4]) -> bool
@@ -62,10 +62,7 @@ impl HeaderSet {
     {
         let c = self.care;
         let v = self.value;
-        (h[0] & c[0] == v[0] & c[0])
-            & (h[1] & c[1] == v[1] & c[1])
-            & (h[2] & c[2] == v[2] & c[2])
-            & (h[3] & c[3] == v[3] & c[3])
+        agree(c, h, v)
     }
 
     // The member with every wild bit 0.
@@ -74,7 +71,7 @@ impl HeaderSet {
     {
         let c = self.care;
         let v = self.value;
-        [v[0] & c[0], v[1] & c[1], v[2] & c[2], v[3] & c[3]]
+        both(v, c)
     }
 
     // Do the values agree on every bit that both care for?
@@ -85,11 +82,7 @@ impl HeaderSet {
         let v = self.value;
         let d = b.care;
         let w = b.value;
-        let m = [c[0] & d[0], c[1] & d[1], c[2] & d[2], c[3] & d[3]];
-        (v[0] & m[0] == w[0] & m[0])
-            & (v[1] & m[1] == w[1] & m[1])
-            & (v[2] & m[2] == w[2] & m[2])
-            & (v[3] & m[3] == w[3] & m[3])
+        agree(both(c, d), v, w)
     }
 
     pub fn intersect(self, b: HeaderSet) -> MaybeSet
@@ -116,9 +109,10 @@ impl HeaderSet {
         let v = self.value;
         let d = b.care;
         let w = b.value;
-        let care = [c[0] | d[0], c[1] | d[1], c[2] | d[2], c[3] | d[3]];
-        let value = [v[0] | w[0], v[1] | w[1], v[2] | w[2], v[3] | w[3]];
-        HeaderSet { care, value }
+        HeaderSet {
+            care: either(c, d),
+            value: either(v, w),
+        }
     }
 
     // The set with all bits of a mask wild.
@@ -240,6 +234,28 @@ impl Action {
 }
 
 // ---- word by word
+
+// Are x and y the same on the bits of a mask?
+fn agree(m: [u32; 4], x: [u32; 4], y: [u32; 4]) -> bool
+    ensures { λ r. ⌜ r ≡ agree 4 m x y ⌝ }
+{
+    (x[0] & m[0] == y[0] & m[0])
+        & (x[1] & m[1] == y[1] & m[1])
+        & (x[2] & m[2] == y[2] & m[2])
+        & (x[3] & m[3] == y[3] & m[3])
+}
+
+fn both(x: [u32; 4], y: [u32; 4]) -> [u32; 4]
+    ensures { λ r. ⌜ r ≡ both 4 x y ⌝ }
+{
+    [x[0] & y[0], x[1] & y[1], x[2] & y[2], x[3] & y[3]]
+}
+
+fn either(x: [u32; 4], y: [u32; 4]) -> [u32; 4]
+    ensures { λ r. ⌜ r ≡ either 4 x y ⌝ }
+{
+    [x[0] | y[0], x[1] | y[1], x[2] | y[2], x[3] | y[3]]
+}
 
 // The bits of x outside a mask.
 fn outside(m: [u32; 4], x: [u32; 4]) -> [u32; 4]
