@@ -2,14 +2,17 @@
 use mathlib.Core.Bool.{Bool, true, false}
 use mathlib.Core.List.{List, [], _∷_, _++_}
 use mathlib.Core.Path.{_≡_, refl, sym, ap, _∙_}
-use Prim.Native.Nat.{ℕ, _+_, _*_, _<_}
+use Prim.Native.Nat.{ℕ, _+_, _*_, _≤_, _<_}
 use native.Mathlib.Omega.{arith}
-use lib.Dec.{eqb}
+use lib.Dec.{eqb, leb}
 use lib.ListN.{length, drop}
-use borrow.Author.Tests.{ne-eqb}
+use borrow.Author.Tests.{ne-eqb, leb-true}
+use Rattle.headers.specs.Sets.{Set}
+use Rattle.headers.proofs.Booleans.{and-fst, and-snd}
 use Rattle.answer.specs.Answer.{Outcome, outcome, refused, answered, writtenAt, bytesOf}
 use Rattle.questions.specs.Questions.{pick, Question, firstNo}
-use Rattle.calls.specs.Questions.{orRefused}
+use Rattle.forwarding.specs.Fabric.{Fabric}
+use Rattle.calls.specs.Questions.{limitRight, targetQuestions, orRefused}
 
 abbrev pub Yeses : List Question → Type 0
 Yeses [] = Unit {0}
@@ -27,6 +30,23 @@ all-yes (q ∷ qs) n e = go (q .yes) refl e (all-yes qs (n .1))
     go : (b : Bool) → q .yes ≡ b → pick b (firstNo qs) (q .number) ≡ 0 → (firstNo qs ≡ 0 → Yeses qs) → Yeses (q ∷ qs)
     go true d e ih = (d, ih e)
     go false d e ih = absurd (let p = n .0 in omega arith)
+
+-- ---- what verdict and list ask first
+
+pub limit-range : (limit : ℕ) → limitRight limit ≡ true → (1 ≤ limit) × (limit ≤ 16)
+limit-range limit e =
+    (leb-true 1 limit (and-fst (leb 1 limit) (leb limit 16) e), leb-true limit 16 (and-snd (leb 1 limit) (leb limit 16) e))
+
+module _ (F : Fabric) (target limit : ℕ) (asked : Set) where
+  pub target-numbered : Numbered (targetQuestions F target limit asked)
+  target-numbered = (omega arith, (omega arith, (omega arith, tt)))
+
+  pub target-yeses : firstNo (targetQuestions F target limit asked) ≡ 0 → (F .isEdge target ≡ true) × ((1 ≤ limit) × (limit ≤ 16))
+  target-yeses e =
+      let y = all-yes (targetQuestions F target limit asked) target-numbered e in
+      (y .0, limit-range limit (y .1 .0))
+
+-- ---- what is answered
 
 -- a no is answered with place 0, and the area is as it was
 pub no-answered : (said number : ℕ) (area : List ℕ) (done : Outcome) → said ≡ number → (said ≡ 0 → ⊥) → outcome said area ≡ orRefused number area done

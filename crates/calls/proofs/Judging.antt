@@ -3,9 +3,9 @@ use mathlib.Core.Bool.{Bool, true, false, cond}
 use mathlib.Core.List.{List, [], _∷_, _++_}
 use mathlib.Core.Option.{some, none}
 use mathlib.Core.Path.{_≡_, refl, sym, ap, ap₂, _∙_, subst}
-use Prim.Native.Nat.{ℕ, _*_, _≤_}
+use Prim.Native.Nat.{ℕ, _*_, _≤_, _<_}
 use native.Mathlib.Omega.{arith}
-use borrow.Author.Tests.{leb-true}
+use borrow.Author.Tests.{leb-true, le-leb, lt-leb}
 use lib.Dec.{leb}
 use lib.ListN.{length, length-append}
 use Rattle.headers.specs.Sets.{Header}
@@ -20,9 +20,9 @@ use Rattle.model.specs.Model.{fabricOf, fabricIn}
 use Rattle.events.specs.Play.{Played, reachedWords}
 use Rattle.events.proofs.VerdictPlayed.{VerdictPlayed, verdict-played}
 use Rattle.backtrace.specs.Pass.{begin, passOf}
-use Rattle.calls.specs.Questions.{Query, limitRight, askedTidy, roomForAnswer, orRefused}
+use Rattle.calls.specs.Questions.{Query, targetQuestions, roomForAnswer, orRefused}
 use Rattle.calls.specs.Verdict.{verdictWords, verdictAsked}
-use Rattle.calls.proofs.Asking.{no-answered, yes-answered}
+use Rattle.calls.proofs.Asking.{target-numbered, no-answered, yes-answered}
 use Rattle.calls.proofs.MoreAsked.{first-no-more, first-no-said}
 
 module _ (f : List ℕ) (q : Query) (area : List ℕ) where
@@ -99,13 +99,11 @@ module _ (f : List ℕ) (q : Query) (area : List ℕ) where
   -- ---- the answer
 
   -- the questions asked before the back-trace, and the one after it
+  abbrev first : List Question
+  first = targetQuestions (fabricIn f) (q .port) (q .limit) (q .asked)
+
   abbrev pub before-trace : List Question
-  before-trace =
-      8 asks fabricIn f .isEdge (q .port)
-      ∷ 9 asks limitRight (q .limit)
-      ∷ 10 asks askedTidy (q .asked)
-      ∷ 12 asks roomForAnswer area
-      ∷ []
+  before-trace = first ++ (12 asks roomForAnswer area ∷ [])
 
   abbrev after-trace : List Question
   after-trace = 13 asks leb (unitsIn v) (q .budget) ∷ []
@@ -113,8 +111,24 @@ module _ (f : List ℕ) (q : Query) (area : List ℕ) where
   abbrev answer : Outcome
   answer = orRefused (firstNo (before-trace ++ after-trace)) area (answered (verdictWords v) area)
 
-  pub no-before : (said : ℕ) → said ≡ firstNo before-trace → (said ≡ 0 → ⊥) → outcome said area ≡ answer
+  no-before : (said : ℕ) → said ≡ firstNo before-trace → (said ≡ 0 → ⊥) → outcome said area ≡ answer
   no-before said e d = no-answered said _ area _ (e ∙ sym (first-no-said before-trace after-trace (λ z. d (e ∙ z)))) d
+
+  -- what is said of the target, and then of the room
+  module _ (said : ℕ) (e : said ≡ firstNo first) where
+    pub no-target : (said ≡ 0 → ⊥) → outcome said area ≡ answer
+    no-target d = no-before said (e ∙ sym (first-no-said first (12 asks roomForAnswer area ∷ []) (λ z. d (e ∙ z)))) d
+
+    module _ (z : said ≡ 0) where
+      room-asked : (b : Bool) → roomForAnswer area ≡ b → firstNo before-trace ≡ pick b 0 12
+      room-asked b r =
+          first-no-more first (12 asks roomForAnswer area ∷ []) (target-numbered (fabricIn f) (q .port) (q .limit) (q .asked)) (sym e ∙ z) ∙ ap (λ (y : Bool). pick y 0 12) r
+
+      pub no-room : length area < 96 → outcome 12 area ≡ answer
+      no-room short = no-before 12 (sym (room-asked false (lt-leb 96 (length area) short))) (λ y. let n : ⊥ = omega arith in n)
+
+      pub all-asked : 96 ≤ length area → firstNo before-trace ≡ 0
+      all-asked enough = room-asked true (le-leb 96 (length area) enough)
 
   module _ (yes : firstNo before-trace ≡ 0) where
     then-after : firstNo (before-trace ++ after-trace) ≡ firstNo after-trace

@@ -1,5 +1,5 @@
 -- The call list: document 01, "The list writes each find in order". Assumes nothing.
-use mathlib.Core.List.{List, [], _∷_}
+use mathlib.Core.List.{List, [], _∷_, _++_}
 use Prim.Native.Nat.{ℕ, _*_}
 use lib.Dec.{leb}
 use lib.ListN.{length}
@@ -11,7 +11,7 @@ use Rattle.forwarding.specs.Fabric as Forwarding
 use Rattle.forwarding.specs.Trace.{Event, trace, units, finds}
 use Rattle.model.specs.Model.{fabricIn}
 use Rattle.events.specs.Play.{listWords}
-use Rattle.calls.specs.Questions.{Query, limitRight, askedTidy, orRefused}
+use Rattle.calls.specs.Questions.{Query, targetQuestions, orRefused}
 
 -- the events of the back-trace that a query asks for, were there no budget
 abbrev pub traceAsked : Forwarding.Fabric → Query → List Event
@@ -25,12 +25,8 @@ wordsAsked F q = listWords (finds (traceAsked F q))
 -- 12. "For the list, asked after 13: enough for all of it?"
 abbrev pub listQuestions : Forwarding.Fabric → Query → List ℕ → List Question
 listQuestions F q area =
-    8 asks F .isEdge (q .port)
-    ∷ 9 asks limitRight (q .limit)
-    ∷ 10 asks askedTidy (q .asked)
-    ∷ 13 asks leb (units (traceAsked F q)) (q .budget)
-    ∷ 12 asks leb (4 * length (wordsAsked F q)) (length area)
-    ∷ []
+    targetQuestions F (q .port) (q .limit) (q .asked)
+    ++ (13 asks leb (units (traceAsked F q)) (q .budget) ∷ 12 asks leb (4 * length (wordsAsked F q)) (length area) ∷ [])
 
 module _ (f : List ℕ) (q : Query) where
   abbrev pub listAnswer : Read → List ℕ → Outcome

@@ -1,6 +1,6 @@
 -- Questions 8 to 12 of document 01, "Questions asked in turn", as each call asks them after 1 to 7. Assumes nothing.
 use mathlib.Core.Bool.{Bool, _&&_}
-use mathlib.Core.List.{List}
+use mathlib.Core.List.{List, [], _∷_}
 use Prim.Native.Nat.{ℕ, _+_, _*_, _-_, _^_}
 use lib.Dec.{leb, eqb}
 use lib.ListN.{length}
@@ -8,7 +8,8 @@ use Rattle.headers.specs.Bits.{word, every}
 use Rattle.headers.specs.Sets.{Set, tidy}
 use Rattle.answer.specs.Answer.{Outcome, refused}
 use Rattle.records.specs.Records.{headerWords}
-use Rattle.questions.specs.Questions.{pick}
+use Rattle.questions.specs.Questions.{pick, Question, _asks_}
+use Rattle.forwarding.specs.Fabric.{Fabric}
 
 -- "words 1 to 11 of the program's query": "target or start; hop limit; budget, unused by a run; care; value"
 pub record Query : Type 0 where
@@ -36,6 +37,10 @@ askedTidy s = tidy headerWords s
 -- 10. ".. and for a run all 128 bits cared for?"
 abbrev pub caresForAll : Set → Bool
 caresForAll s = every headerWords (λ w. eqb (word (s .care) w) (2 ^ 32 - 1))
+
+-- 8. "is the target an edge port?", and 9 and 10: what verdict and list ask first
+abbrev pub targetQuestions : Fabric → ℕ → ℕ → Set → List Question
+targetQuestions F target limit asked = 8 asks F .isEdge target ∷ 9 asks limitRight limit ∷ 10 asks askedTidy asked ∷ []
 
 -- 12. "Are 96 bytes lent (verdict, run)?"
 abbrev pub roomForAnswer : List ℕ → Bool

@@ -1,5 +1,5 @@
 -- The call verdict: document 01, "The verdict stops at the first find with a foreign packet .. It fills 24 words". Assumes nothing.
-use mathlib.Core.List.{List, [], _∷_}
+use mathlib.Core.List.{List, [], _∷_, _++_}
 use Prim.Native.Nat.{ℕ}
 use lib.Dec.{leb}
 use lib.ListN.{replicate}
@@ -11,7 +11,7 @@ use Rattle.forwarding.specs.Fabric as Forwarding
 use Rattle.forwarding.specs.Verdict.{Verdict, isolated, reached, unitsIn, verdictOn}
 use Rattle.model.specs.Model.{fabricIn}
 use Rattle.events.specs.Play.{reachedWords}
-use Rattle.calls.specs.Questions.{Query, limitRight, askedTidy, roomForAnswer, orRefused}
+use Rattle.calls.specs.Questions.{Query, targetQuestions, roomForAnswer, orRefused}
 
 -- "0 isolated or 1 reached; units made; .. Isolated has 0 from word 2 on."
 unfoldable pub verdictWords : Verdict → List ℕ
@@ -23,15 +23,10 @@ abbrev pub verdictAsked : Forwarding.Fabric → Query → Verdict
 verdictAsked F q = verdictOn F (q .port) (q .limit) (q .asked)
 
 -- the questions after 1 to 7, in turn
--- 8. "is the target an edge port?" 13. "Did the back-trace end within the budget?"
+-- 13. "Did the back-trace end within the budget?"
 abbrev pub verdictQuestions : Forwarding.Fabric → Query → List ℕ → List Question
 verdictQuestions F q area =
-    8 asks F .isEdge (q .port)
-    ∷ 9 asks limitRight (q .limit)
-    ∷ 10 asks askedTidy (q .asked)
-    ∷ 12 asks roomForAnswer area
-    ∷ 13 asks leb (unitsIn (verdictAsked F q)) (q .budget)
-    ∷ []
+    targetQuestions F (q .port) (q .limit) (q .asked) ++ (12 asks roomForAnswer area ∷ 13 asks leb (unitsIn (verdictAsked F q)) (q .budget) ∷ [])
 
 module _ (f : List ℕ) (q : Query) where
   abbrev pub verdictAnswer : Read → List ℕ → Outcome

@@ -8,12 +8,13 @@ ghost use Prim.Native.Nat.{_≤_};
 ghost use lib.ListN.{length};
 ghost use Rattle.headers.specs.Forms.{setOf};
 ghost use Rattle.answer.specs.Answer.{outcome, writtenAt};
+ghost use Rattle.questions.specs.Questions.{firstNo};
 ghost use Rattle.questions.specs.Tables.{EdgeTable, StartTable, EndTable};
 ghost use Rattle.questions.specs.declared.Read.the-variants.{Fabric};
 ghost use Rattle.file.specs.Accepted.{Accepted};
 ghost use Rattle.forwarding.specs.Verdict.{isolated};
 ghost use Rattle.model.specs.Model.{fabricIn};
-ghost use Rattle.calls.specs.Questions.{query, limitRight, caresForAll};
+ghost use Rattle.calls.specs.Questions.{query, limitRight, caresForAll, targetQuestions};
 ghost use Rattle.calls.specs.Run.{runAnswer};
 ghost use Rattle.calls.specs.Verdict.{verdictWords, verdictAnswer};
 ghost use Rattle.calls.specs.List.{listAnswer};
@@ -23,10 +24,12 @@ const ANSWER: usize = 96;
 
 const ANSWERED: u64 = 24 * 256;
 
-// Question 13, which is asked while the units are made.
+// Questions 12 and 13, where they are asked by themselves.
+const NO_ROOM: u64 = 12;
+
 const BUDGET_USED: u64 = 13;
 
-// ---- questions 9 to 11
+// ---- questions 8 to 11
 
 fn limit_right(limit: u32) -> bool
     ensures { λ r. ⌜ r ≡ limitRight limit ⌝ }
@@ -51,6 +54,24 @@ fn is_edge(file: &[u8], shape: Shape, edge_of: &[u16; 4096], port: u32) -> bool
         return false;
     }
     0 < edge_of[port as usize]
+}
+
+// Questions 8, 9 and 10, which verdict and list ask first: the number of the first no, or 0.
+fn target_no(
+    file: &[u8],
+    shape: Shape,
+    edge_of: &[u16; 4096],
+    target: u32,
+    limit: u32,
+    asked: HeaderSet,
+) -> u32
+    requires { ⌜ Accepted (now file) shape ⌝ }
+    requires { ⌜ EdgeTable (now file) (shape .edges) (now «edge_of») ⌝ }
+    ensures { λ r. ⌜ r ≡ firstNo (targetQuestions (fabricIn (now (file .entry))) target limit (setOf asked)) ⌝ }
+{
+    let edge = is_edge(file, shape, edge_of, target);
+    let tidy = asked.is_tidy();
+    ask(8, edge, ask(9, limit_right(limit), ask(10, tidy, 0)))
 }
 
 // ---- the packet run
@@ -119,16 +140,12 @@ pub fn verdict_accepted(
     requires { ⌜ EndTable (now file) (shape .edges) (shape .links) (now ends) ⌝ }
     ensures { λ r. ⌜ outcome r (now (area .exit)) ≡ verdictAnswer (now (file .entry)) (query target limit budget (setOf asked)) (Fabric shape) (now (area .entry)) ⌝ }
 {
-    let edge = is_edge(file, shape, edge_of, target);
-    let tidy = asked.is_tidy();
-    let room = ANSWER <= area.len();
-    let no = ask(
-        8,
-        edge,
-        ask(9, limit_right(limit), ask(10, tidy, ask(12, room, 0))),
-    );
+    let no = target_no(file, shape, edge_of, target, limit, asked);
     if no != 0 {
         return no as u64;
+    }
+    if area.len() < ANSWER {
+        return NO_ROOM;
     }
     let index = index::build(file, shape, edge_of, ends);
     let p = backtrace::pass(
@@ -172,9 +189,7 @@ pub fn list_accepted(
     requires { ⌜ EndTable (now file) (shape .edges) (shape .links) (now ends) ⌝ }
     ensures { λ r. ⌜ outcome r (now (area .exit)) ≡ listAnswer (now (file .entry)) (query target limit budget (setOf asked)) (Fabric shape) (now (area .entry)) ⌝ }
 {
-    let edge = is_edge(file, shape, edge_of, target);
-    let tidy = asked.is_tidy();
-    let no = ask(8, edge, ask(9, limit_right(limit), ask(10, tidy, 0)));
+    let no = target_no(file, shape, edge_of, target, limit, asked);
     if no != 0 {
         return no as u64;
     }
@@ -196,7 +211,7 @@ pub fn list_accepted(
     }
     let room = (area.len() / 4) as u64;
     if room < counted.words {
-        return 12;
+        return NO_ROOM;
     }
     backtrace::pass(
         file,

@@ -4,60 +4,52 @@ use mathlib.Core.List.{List, [], _∷_}
 use mathlib.Core.Path.{_≡_, refl, sym, ap, ap₂, _∙_}
 use Prim.Native.Nat.{ℕ, _*_, _/_, _^_, _≤_, _<_}
 use borrow.Author.Needs.{needs}
-use borrow.Author.Tests.{leb-true, le-leb, lt-leb}
+use borrow.Author.Tests.{le-leb, lt-leb}
 use denote.Ref.{now}
 use lib.Dec.{leb}
 use lib.ListN.{length}
 use native.Mathlib.Omega.{arith}
 use Rattle.headers.specs.Forms.{setOf}
-use Rattle.headers.proofs.Booleans.{and-fst, and-snd}
 use Rattle.answer.specs.Answer.{Outcome, outcome, answered}
 use Rattle.questions.specs.Questions.{pick, Question, _asks_, firstNo}
-use Rattle.forwarding.specs.Fabric.{Fabric}
 use Rattle.forwarding.specs.Trace.{units}
 use Rattle.model.specs.Model.{fabricIn}
 use Rattle.backtrace.specs.Pass.{playedThen, passOf}
 use Rattle.backtrace.specs.declared.Passed.{Passed}
-use Rattle.calls.specs.Questions.{Query, query, limitRight, askedTidy, orRefused}
+use Rattle.calls.specs.Questions.{Query, query, targetQuestions, orRefused}
 use Rattle.calls.specs.List.{traceAsked, wordsAsked, listQuestions}
-use Rattle.calls.proofs.Asking.{Numbered, Yeses, all-yes, no-answered, yes-answered}
+use Rattle.calls.proofs.Asking.{target-numbered, target-yeses, no-answered, yes-answered}
 use Rattle.calls.proofs.MoreAsked.{first-no-more, first-no-said}
 use Rattle.calls.proofs.Listing.{AllCounted, over-budget, all-counted, all-listed}
 use Rattle.calls.proofs.list_accepted.Statement.{statement}
 use Rattle.calls.proofs.list_accepted.Tie as tie
 
--- ---- the questions
-
--- those asked before the trace
-abbrev asked-first : Fabric → Query → List Question
-asked-first F q = 8 asks F .isEdge (q .port) ∷ 9 asks limitRight (q .limit) ∷ 10 asks askedTidy (q .asked) ∷ []
-
-numbered : (F : Fabric) (q : Query) → Numbered (asked-first F q)
-numbered F q = (omega arith, (omega arith, (omega arith, tt)))
-
 -- ---- what is answered
 
 module _ (f : List ℕ) (q : Query) (area : List ℕ) where
-  -- those asked after the trace
+  -- the questions asked before the trace, and after it
+  abbrev asked-first : List Question
+  asked-first = targetQuestions (fabricIn f) (q .port) (q .limit) (q .asked)
+
   abbrev asked-then : List Question
   asked-then = 13 asks leb (units (traceAsked (fabricIn f) q)) (q .budget) ∷ 12 asks leb (4 * length (wordsAsked (fabricIn f) q)) (length area) ∷ []
 
   abbrev answer : Outcome
   answer = orRefused (firstNo (listQuestions (fabricIn f) q area)) area (answered (wordsAsked (fabricIn f) q) area)
 
-  first-answered : (said : ℕ) → said ≡ firstNo (asked-first (fabricIn f) q) → (said ≡ 0 → ⊥) → outcome said area ≡ answer
+  first-answered : (said : ℕ) → said ≡ firstNo asked-first → (said ≡ 0 → ⊥) → outcome said area ≡ answer
   first-answered said e d =
       no-answered said (firstNo (listQuestions (fabricIn f) q area)) area (answered (wordsAsked (fabricIn f) q) area)
-      (e ∙ sym (first-no-said (asked-first (fabricIn f) q) asked-then (λ z. d (e ∙ z)))) d
+      (e ∙ sym (first-no-said asked-first asked-then (λ z. d (e ∙ z)))) d
 
   module _
-      (z : firstNo (asked-first (fabricIn f) q) ≡ 0) (p : Passed) (after : List ℕ)
+      (z : firstNo asked-first ≡ 0) (p : Passed) (after : List ℕ)
       (e : playedThen p after ≡ passOf f 1 (q .port) (q .limit) (q .budget) (q .asked) area)
     where
       then-asked : (within room : Bool) → leb (units (traceAsked (fabricIn f) q)) (q .budget) ≡ within
           → leb (4 * length (wordsAsked (fabricIn f) q)) (length area) ≡ room → firstNo (listQuestions (fabricIn f) q area) ≡ pick within (pick room 0 12) 13
       then-asked within room w r =
-          first-no-more (asked-first (fabricIn f) q) asked-then (numbered (fabricIn f) q) z ∙ ap₂ (λ (a b : Bool). pick a (pick b 0 12) 13) w r
+          first-no-more asked-first asked-then (target-numbered (fabricIn f) (q .port) (q .limit) (q .asked)) z ∙ ap₂ (λ (a b : Bool). pick a (pick b 0 12) 13) w r
 
       -- "if one more is needed, question 13 gets a no"
       over-answered : (p .status ≡ 0 → ⊥) → outcome 13 after ≡ answer
@@ -91,79 +83,45 @@ module _ (f : List ℕ) (q : Query) (area : List ℕ) where
 queried : tie.Start → Query
 queried s = query (s .args .target) (s .args .limit) (s .args .budget) (setOf (s .args .asked))
 
--- the number of the first no
-asked : (c : tie.After-ask3) → let s = c .before .before .before .before .before .before .before .before in c .ask3 .result ≡ firstNo (asked-first (fabricIn (now (s .args .file))) (queried s))
-unfolding queried
-asked c =
-    c .ask3 .ensures
-    ∙ ap₂ (λ (y : Bool) (n : ℕ). pick y n 8) (c .before .before .before .before .before .is-edge .ensures)
-    (c .before .ask2 .ensures
-    ∙ ap₂ (λ (y : Bool) (n : ℕ). pick y n 9) (c .before .before .before .limit-right .ensures)
-    (c .before .before .ask .ensures ∙ ap (λ (y : Bool). pick y 0 10) (c .before .before .before .before .is-tidy .ensures)))
+none-refused : (c : tie.Else1) → let s = c .before .before .before .before in
+    firstNo (targetQuestions (fabricIn (now (s .args .file))) (s .args .target) (s .args .limit) (setOf (s .args .asked))) ≡ 0
+none-refused c = sym (c .before .target-no .ensures) ∙ c .if1 .left
 
-none-refused : (c : tie.Else1) → let s = c .before .before .before .before .before .before .before .before .before in firstNo (asked-first (fabricIn (now (s .args .file))) (queried s)) ≡ 0
-none-refused c = sym (asked (c .before)) ∙ c .if1 .left
-
-yeses : (c : tie.Else1) → let s = c .before .before .before .before .before .before .before .before .before in Yeses (asked-first (fabricIn (now (s .args .file))) (queried s))
+-- the target is an edge port, and the limit 1 to 16
+yeses : (c : tie.Else1) → let s = c .before .before .before .before in (fabricIn (now (s .args .file)) .isEdge (s .args .target) ≡ true) × ((1 ≤ s .args .limit) × (s .args .limit ≤ 16))
 yeses c =
-    let s = c .before .before .before .before .before .before .before .before .before in
-    all-yes (asked-first (fabricIn (now (s .args .file))) (queried s)) (numbered (fabricIn (now (s .args .file))) (queried s)) (none-refused c)
+    let s = c .before .before .before .before in
+    target-yeses (fabricIn (now (s .args .file))) (s .args .target) (s .args .limit) (setOf (s .args .asked)) (none-refused c)
 
-is-edge-port : (c : tie.Else1) → let s = c .before .before .before .before .before .before .before .before .before in fabricIn (now (s .args .file)) .isEdge (s .args .target) ≡ true
-unfolding queried
-is-edge-port c = yeses c .0
-
-limits : (c : tie.Else1) → let s = c .before .before .before .before .before .before .before .before .before in (1 ≤ s .args .limit) × (s .args .limit ≤ 16)
-unfolding queried
-limits c =
-    let s = c .before .before .before .before .before .before .before .before .before in
-    let right = yeses c .1 .0 in
-    (leb-true 1 (s .args .limit) (and-fst (leb 1 (s .args .limit)) (leb (s .args .limit) 16) right), leb-true (s .args .limit) 16 (and-snd (leb 1 (s .args .limit)) (leb (s .args .limit) 16) right))
-
-low-budget : (c : tie.Else1) → c .before .before .before .before .before .before .before .before .before .args .budget < 2 ^ 32
+low-budget : (c : tie.Else1) → c .before .before .before .before .args .budget < 2 ^ 32
 low-budget c = search needs
 
 -- the first pass
-first-pass : (c : tie.Else2) → let s = c .before .before .before .before .before .before .before .before .before .before .before .before .before .before .before .before .before in
+first-pass : (c : tie.Else2) → let s = c .before .before .before .before .before .before .before .before .before .before .before .before in
     AllCounted (now (s .args .file)) (s .args .target) (s .args .limit) (s .args .budget) (setOf (s .args .asked)) (now (s .args .area))
     (c .before .before .before .before .pass .result) (c .before .before .before .before .pass .last .1 .0) (c .before .before .before .before .pass .ensures)
 first-pass c =
-    let s = c .before .before .before .before .before .before .before .before .before .before .before .before .before .before .before .before .before in
+    let s = c .before .before .before .before .before .before .before .before .before .before .before .before in
     all-counted (now (s .args .file)) (s .args .target) (s .args .limit) (s .args .budget) (setOf (s .args .asked)) (now (s .args .area))
-    (c .before .before .before .before .pass .result) (c .before .before .before .before .pass .last .1 .0) (c .before .before .before .before .pass .ensures) (limits (c .before .before .before .before .before .before .before .before) .1) (low-budget (c .before .before .before .before .before .before .before .before)) (c .if2 .left)
+    (c .before .before .before .before .pass .result) (c .before .before .before .before .pass .last .1 .0) (c .before .before .before .before .pass .ensures) (yeses (c .before .before .before .before .before .before .before .before) .1 .1) (low-budget (c .before .before .before .before .before .before .before .before)) (c .if2 .left)
 
-is-edge-requires : tie.Need-is-edge-requires
-is-edge-requires c κs = search needs
-
-is-tidy-requires : tie.Need-is-tidy-requires
-is-tidy-requires c κs = search needs
-
-limit-right-requires : tie.Need-limit-right-requires
-limit-right-requires c κs = search needs
-
-ask-requires : tie.Need-ask-requires
-ask-requires c κs = search needs
-
-ask-requires-2 : tie.Need-ask-requires-2
-ask-requires-2 c κs = search needs
-
-ask-requires-3 : tie.Need-ask-requires-3
-ask-requires-3 c κs = search needs
+target-no-requires : tie.Need-target-no-requires
+target-no-requires c κs = search needs
 
 cast-result : tie.Need-cast-result
 cast-result c = search needs
 
 returns : tie.Need-returns
 unfolding queried
-returns c = let s = c .before .before .before .before .before .before .before .before .before in first-answered (now (s .args .file)) (queried s) (now (s .args .area)) (c .before .ask3 .result) (asked (c .before)) (c .if1 .taken)
+returns c = let s = c .before .before .before .before in first-answered (now (s .args .file)) (queried s) (now (s .args .area)) (c .before .target-no .result) (c .before .target-no .ensures) (c .if1 .taken)
 
 build-requires : tie.Need-build-requires
 build-requires c κs = search needs
 
 pass-requires : tie.Need-pass-requires
 pass-requires c κs =
-    let s = c .before .before .before .before .before .before .before .before .before .before .before .before in
-    (s .pre .0, (s .pre .1 .0, (c .before .before .build .ensures, (is-edge-port (c .before .before .before), (limits (c .before .before .before), λ z. absurd (let y : ⊥ = omega arith in y))))))
+    let s = c .before .before .before .before .before .before .before in
+    (s .pre .0, (s .pre .1 .0, (c .before .before .build .ensures, (yeses (c .before .before .before) .0, (yeses (c .before .before .before) .1, λ z. absurd (let y : ⊥ = omega arith in y))))))
 
 same-length : tie.Need-same-length
 same-length c = search needs
@@ -171,7 +129,7 @@ same-length c = search needs
 returns-2 : tie.Need-returns-2
 unfolding queried
 returns-2 c =
-    let s = c .before .before .before .before .before .before .before .before .before .before .before .before .before .before .before .before .before in
+    let s = c .before .before .before .before .before .before .before .before .before .before .before .before in
     over-answered (now (s .args .file)) (queried s) (now (s .args .area)) (none-refused (c .before .before .before .before .before .before .before .before)) (c .before .before .before .before .pass .result) (c .before .before .before .before .pass .last .1 .0) (c .before .before .before .before .pass .ensures) (c .if2 .taken)
 
 same-length-2 : tie.Need-same-length-2
@@ -180,13 +138,13 @@ same-length-2 c = search needs
 returns-3 : tie.Need-returns-3
 unfolding queried
 returns-3 c =
-    let s = c .before .before .before .before .before .before .before .before .before .before .before .before .before .before .before .before .before .before .before in
+    let s = c .before .before .before .before .before .before .before .before .before .before .before .before .before .before in
     no-room-answered (now (s .args .file)) (queried s) (now (s .args .area)) (none-refused (c .before .before .before .before .before .before .before .before .before .before)) (c .before .before .before .before .before .before .pass .result) (c .before .before .before .before .before .before .pass .last .1 .0) (c .before .before .before .before .before .before .pass .ensures) (first-pass (c .before .before)) (c .if3 .taken)
 
 pass-requires-2 : tie.Need-pass-requires-2
 pass-requires-2 c κs =
-    let s = c .before .before .before .before .before .before .before .before .before .before .before .before .before .before .before .before .before .before .before .before .before in
-    (s .pre .0, (s .pre .1 .0, (c .before .before .before .before .before .before .before .before .before .before .before .build .ensures, (is-edge-port (c .before .before .before .before .before .before .before .before .before .before .before .before), (limits (c .before .before .before .before .before .before .before .before .before .before .before .before), λ z. absurd (let y : ⊥ = omega arith in y))))))
+    let s = c .before .before .before .before .before .before .before .before .before .before .before .before .before .before .before .before in
+    (s .pre .0, (s .pre .1 .0, (c .before .before .before .before .before .before .before .before .before .before .before .build .ensures, (yeses (c .before .before .before .before .before .before .before .before .before .before .before .before) .0, (yeses (c .before .before .before .before .before .before .before .before .before .before .before .before) .1, λ z. absurd (let y : ⊥ = omega arith in y))))))
 
 mul-result : tie.Need-mul-result
 mul-result c = omega (arith, first-pass (c .before .before .before .before .before .before .before .before) .few)
@@ -197,7 +155,7 @@ same-length-3 c = search needs
 returns-4 : tie.Need-returns-4
 unfolding queried
 returns-4 c =
-    let s = c .before .before .before .before .before .before .before .before .before .before .before .before .before .before .before .before .before .before .before .before .before .before .before .before .before in
+    let s = c .before .before .before .before .before .before .before .before .before .before .before .before .before .before .before .before .before .before .before .before in
     listed-answered (now (s .args .file)) (queried s) (now (s .args .area)) (none-refused (c .before .before .before .before .before .before .before .before .before .before .before .before .before .before .before .before)) (c .before .before .before .before .before .before .before .before .before .before .before .before .pass .result) (c .before .before .before .before .before .before .before .before .before .before .before .before .pass .last .1 .0) (c .before .before .before .before .before .before .before .before .before .before .before .before .pass .ensures) (first-pass (c .before .before .before .before .before .before .before .before))
     (omega (arith, c .before .before .before .before .before .before .if3 .left)) (c .before .before .before .pass2 .result) (c .before .before .before .pass2 .last .1 .0) (c .before .before .before .pass2 .ensures)
 
@@ -205,12 +163,7 @@ pub list-accepted-spec : {M : Type 1} → statement M
 list-accepted-spec =
     tie.close
     (tie.spec
-    is-edge-requires
-    is-tidy-requires
-    limit-right-requires
-    ask-requires
-    ask-requires-2
-    ask-requires-3
+    target-no-requires
     cast-result
     returns
     build-requires

@@ -6,11 +6,9 @@ use Prim.Native.Nat.{ℕ, _≤_}
 use borrow.Author.Needs.{needs}
 use borrow.Author.Tests.{leb-true}
 use denote.Ref.{now}
-use lib.Dec.{leb}
 use lib.ListN.{length}
 use native.Mathlib.Omega.{arith}
 use Rattle.headers.specs.Forms.{setOf}
-use Rattle.headers.proofs.Booleans.{and-snd}
 use Rattle.answer.specs.Answer.{writtenAt}
 use Rattle.questions.specs.Questions.{pick, firstNo}
 use Rattle.model.specs.Model.{fabricIn}
@@ -18,7 +16,7 @@ use Rattle.journey.specs.Journey.{packetWords, journeyWords}
 use Rattle.journey.proofs.Hops.{few-hops-then, words-are-24, words-same}
 use Rattle.calls.specs.Questions.{query}
 use Rattle.calls.specs.Run.{runQuestions, packetRun}
-use Rattle.calls.proofs.Asking.{Yeses, all-yes, no-answered, yes-answered}
+use Rattle.calls.proofs.Asking.{Yeses, all-yes, limit-range, no-answered, yes-answered}
 use Rattle.calls.proofs.run_accepted.Statement.{statement}
 use Rattle.calls.proofs.run_accepted.Tie as tie
 
@@ -43,7 +41,7 @@ yeses c =
     (omega arith, (omega arith, (omega arith, (omega arith, tt)))) (sym (asked (c .before)) ∙ c .if1 .left)
 
 low-limit : (c : tie.Else1) → c .before .before .before .before .before .before .before .before .before .before .before .args .limit ≤ 16
-low-limit c = leb-true _ _ (and-snd (leb 1 (c .before .before .before .before .before .before .before .before .before .before .before .args .limit)) _ (yeses c .0))
+low-limit c = limit-range _ (yeses c .0) .1
 
 four : (c : tie.After-travel) → length (c .travel .result .header) ≡ 4
 four c = search needs
