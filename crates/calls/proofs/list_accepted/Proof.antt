@@ -77,33 +77,47 @@ module _ (f : List ℕ) (q : Query) (area : List ℕ) where
             (all-listed f (q .port) (q .limit) (q .budget) (q .asked) area r last
             (e2 ∙ ap (passOf f 2 (q .port) (q .limit) (q .budget) (q .asked)) (all .area-kept)) (all .within) room)
 
--- ---- the needs
+-- ---- the moments of the call
+
+-- once the questions on the target got their yeses: the start
+abbrev start : tie.Else1 → tie.Start
+start c = c .before .before .before .before
 
 -- the query as the call has it
 queried : tie.Start → Query
 queried s = query (s .args .target) (s .args .limit) (s .args .budget) (setOf (s .args .asked))
 
-none-refused : (c : tie.Else1) → let s = c .before .before .before .before in
-    firstNo (targetQuestions (fabricIn (now (s .args .file))) (s .args .target) (s .args .limit) (setOf (s .args .asked))) ≡ 0
-none-refused c = sym (c .before .target-no .ensures) ∙ c .if1 .left
+module _ (c : tie.Else1) where
+  abbrev s : tie.Start
+  s = start c
 
--- the target is an edge port, and the limit 1 to 16
-yeses : (c : tie.Else1) → let s = c .before .before .before .before in (fabricIn (now (s .args .file)) .isEdge (s .args .target) ≡ true) × ((1 ≤ s .args .limit) × (s .args .limit ≤ 16))
-yeses c =
-    let s = c .before .before .before .before in
-    target-yeses (fabricIn (now (s .args .file))) (s .args .target) (s .args .limit) (setOf (s .args .asked)) (none-refused c)
+  none-refused : firstNo (targetQuestions (fabricIn (now (s .args .file))) (s .args .target) (s .args .limit) (setOf (s .args .asked))) ≡ 0
+  none-refused = sym (c .before .target-no .ensures) ∙ c .if1 .left
 
-low-budget : (c : tie.Else1) → c .before .before .before .before .args .budget < 2 ^ 32
-low-budget c = search needs
+  -- the target is an edge port, and the limit 1 to 16
+  yeses : (fabricIn (now (s .args .file)) .isEdge (s .args .target) ≡ true) × ((1 ≤ s .args .limit) × (s .args .limit ≤ 16))
+  yeses = target-yeses (fabricIn (now (s .args .file))) (s .args .target) (s .args .limit) (setOf (s .args .asked)) none-refused
 
--- the first pass
-first-pass : (c : tie.Else2) → let s = c .before .before .before .before .before .before .before .before .before .before .before .before in
-    AllCounted (now (s .args .file)) (s .args .target) (s .args .limit) (s .args .budget) (setOf (s .args .asked)) (now (s .args .area))
-    (c .before .before .before .before .pass .result) (c .before .before .before .before .pass .last .1 .0) (c .before .before .before .before .pass .ensures)
-first-pass c =
-    let s = c .before .before .before .before .before .before .before .before .before .before .before .before in
-    all-counted (now (s .args .file)) (s .args .target) (s .args .limit) (s .args .budget) (setOf (s .args .asked)) (now (s .args .area))
-    (c .before .before .before .before .pass .result) (c .before .before .before .before .pass .last .1 .0) (c .before .before .before .before .pass .ensures) (yeses (c .before .before .before .before .before .before .before .before) .1 .1) (low-budget (c .before .before .before .before .before .before .before .before)) (c .if2 .left)
+  low-budget : s .args .budget < 2 ^ 32
+  low-budget = search needs
+
+-- after the first pass: the same, and the area
+module _ (p : tie.After-pass) where
+  abbrev before-pass : tie.Else1
+  before-pass = p .before .before .before .before
+
+  abbrev area-then : List ℕ
+  area-then = p .pass .last .1 .0
+
+  first-pass : p .pass .result .status ≡ 0 → let s = start before-pass in
+      AllCounted (now (s .args .file)) (s .args .target) (s .args .limit) (s .args .budget) (setOf (s .args .asked)) (now (s .args .area))
+      (p .pass .result) area-then (p .pass .ensures)
+  first-pass through =
+      let s = start before-pass in
+      all-counted (now (s .args .file)) (s .args .target) (s .args .limit) (s .args .budget) (setOf (s .args .asked)) (now (s .args .area))
+      (p .pass .result) area-then (p .pass .ensures) (yeses before-pass .1 .1) (low-budget before-pass) through
+
+-- ---- the needs
 
 target-no-requires : tie.Need-target-no-requires
 target-no-requires c κs = search needs
@@ -113,15 +127,18 @@ cast-result c = search needs
 
 returns : tie.Need-returns
 unfolding queried
-returns c = let s = c .before .before .before .before in first-answered (now (s .args .file)) (queried s) (now (s .args .area)) (c .before .target-no .result) (c .before .target-no .ensures) (c .if1 .taken)
+returns c =
+    let s = c .before .before .before .before in
+    first-answered (now (s .args .file)) (queried s) (now (s .args .area)) (c .before .target-no .result) (c .before .target-no .ensures) (c .if1 .taken)
 
 build-requires : tie.Need-build-requires
 build-requires c κs = search needs
 
 pass-requires : tie.Need-pass-requires
 pass-requires c κs =
-    let s = c .before .before .before .before .before .before .before in
-    (s .pre .0, (s .pre .1 .0, (c .before .before .build .ensures, (yeses (c .before .before .before) .0, (yeses (c .before .before .before) .1, λ z. absurd (let y : ⊥ = omega arith in y))))))
+    let asked = c .before .before .before in
+    let s = start asked in
+    (s .pre .0, (s .pre .1 .0, (c .before .before .build .ensures, (yeses asked .0, (yeses asked .1, λ z. absurd (let y : ⊥ = omega arith in y))))))
 
 same-length : tie.Need-same-length
 same-length c = search needs
@@ -129,8 +146,10 @@ same-length c = search needs
 returns-2 : tie.Need-returns-2
 unfolding queried
 returns-2 c =
-    let s = c .before .before .before .before .before .before .before .before .before .before .before .before in
-    over-answered (now (s .args .file)) (queried s) (now (s .args .area)) (none-refused (c .before .before .before .before .before .before .before .before)) (c .before .before .before .before .pass .result) (c .before .before .before .before .pass .last .1 .0) (c .before .before .before .before .pass .ensures) (c .if2 .taken)
+    let p = c .before .before .before .before in
+    let s = start (before-pass p) in
+    over-answered (now (s .args .file)) (queried s) (now (s .args .area)) (none-refused (before-pass p)) (p .pass .result) (area-then p) (p .pass .ensures)
+    (c .if2 .taken)
 
 same-length-2 : tie.Need-same-length-2
 same-length-2 c = search needs
@@ -138,16 +157,23 @@ same-length-2 c = search needs
 returns-3 : tie.Need-returns-3
 unfolding queried
 returns-3 c =
-    let s = c .before .before .before .before .before .before .before .before .before .before .before .before .before .before in
-    no-room-answered (now (s .args .file)) (queried s) (now (s .args .area)) (none-refused (c .before .before .before .before .before .before .before .before .before .before)) (c .before .before .before .before .before .before .pass .result) (c .before .before .before .before .before .before .pass .last .1 .0) (c .before .before .before .before .before .before .pass .ensures) (first-pass (c .before .before)) (c .if3 .taken)
+    let counted = c .before .before in
+    let p = counted .before .before .before .before in
+    let s = start (before-pass p) in
+    no-room-answered (now (s .args .file)) (queried s) (now (s .args .area)) (none-refused (before-pass p)) (p .pass .result) (area-then p) (p .pass .ensures)
+    (first-pass p (counted .if2 .left)) (c .if3 .taken)
 
 pass-requires-2 : tie.Need-pass-requires-2
 pass-requires-2 c κs =
-    let s = c .before .before .before .before .before .before .before .before .before .before .before .before .before .before .before .before in
-    (s .pre .0, (s .pre .1 .0, (c .before .before .before .before .before .before .before .before .before .before .before .build .ensures, (yeses (c .before .before .before .before .before .before .before .before .before .before .before .before) .0, (yeses (c .before .before .before .before .before .before .before .before .before .before .before .before) .1, λ z. absurd (let y : ⊥ = omega arith in y))))))
+    let p = c .before .before .before .before .before .before .before .before in
+    let asked = before-pass p in
+    let s = start asked in
+    (s .pre .0, (s .pre .1 .0, (p .before .before .before .build .ensures, (yeses asked .0, (yeses asked .1, λ z. absurd (let y : ⊥ = omega arith in y))))))
 
 mul-result : tie.Need-mul-result
-mul-result c = omega (arith, first-pass (c .before .before .before .before .before .before .before .before) .few)
+mul-result c =
+    let counted = c .before .before .before .before .before .before .before .before in
+    omega (arith, first-pass (counted .before .before .before .before) (counted .if2 .left) .few)
 
 same-length-3 : tie.Need-same-length-3
 same-length-3 c = search needs
@@ -155,9 +181,13 @@ same-length-3 c = search needs
 returns-4 : tie.Need-returns-4
 unfolding queried
 returns-4 c =
-    let s = c .before .before .before .before .before .before .before .before .before .before .before .before .before .before .before .before .before .before .before .before in
-    listed-answered (now (s .args .file)) (queried s) (now (s .args .area)) (none-refused (c .before .before .before .before .before .before .before .before .before .before .before .before .before .before .before .before)) (c .before .before .before .before .before .before .before .before .before .before .before .before .pass .result) (c .before .before .before .before .before .before .before .before .before .before .before .before .pass .last .1 .0) (c .before .before .before .before .before .before .before .before .before .before .before .before .pass .ensures) (first-pass (c .before .before .before .before .before .before .before .before))
-    (omega (arith, c .before .before .before .before .before .before .if3 .left)) (c .before .before .before .pass2 .result) (c .before .before .before .pass2 .last .1 .0) (c .before .before .before .pass2 .ensures)
+    let second = c .before .before .before in
+    let fits = second .before .before .before in
+    let counted = fits .before .before in
+    let p = counted .before .before .before .before in
+    let s = start (before-pass p) in
+    listed-answered (now (s .args .file)) (queried s) (now (s .args .area)) (none-refused (before-pass p)) (p .pass .result) (area-then p) (p .pass .ensures)
+    (first-pass p (counted .if2 .left)) (omega (arith, fits .if3 .left)) (second .pass2 .result) (second .pass2 .last .1 .0) (second .pass2 .ensures)
 
 pub list-accepted-spec : {M : Type 1} → statement M
 list-accepted-spec =
