@@ -11,40 +11,58 @@ use native.Mathlib.Omega.{arith}
 use Rattle.headers.specs.Forms.{setOf}
 use Rattle.answer.specs.Answer.{writtenAt}
 use Rattle.questions.specs.Questions.{pick, firstNo}
+use Rattle.forwarding.specs.Fabric.{Fabric}
 use Rattle.model.specs.Model.{fabricIn}
 use Rattle.journey.specs.Journey.{packetWords, journeyWords}
 use Rattle.journey.proofs.Hops.{few-hops-then, words-are-24, words-same}
-use Rattle.calls.specs.Questions.{query}
+use Rattle.calls.specs.Questions.{Query, query}
 use Rattle.calls.specs.Run.{runQuestions, packetRun}
 use Rattle.calls.proofs.Asking.{Yeses, all-yes, limit-range, no-answered, yes-answered}
 use Rattle.calls.proofs.run_accepted.Statement.{statement}
 use Rattle.calls.proofs.run_accepted.Tie as tie
 
--- the number of the first no
-asked : (c : tie.After-ask4) → let s = c .before .before .before .before .before .before .before .before .before .before in
-    c .ask4 .result ≡ firstNo (runQuestions (fabricIn (now (s .args .file))) (query (s .args .start) (s .args .limit) (s .args .budget) (setOf (s .args .asked))) (now (s .args .area)))
-asked c =
-    let s = c .before .before .before .before .before .before .before .before .before .before in
-    c .ask4 .ensures
-    ∙ ap₂ (λ (y : Bool) (n : ℕ). pick y n 9) (c .before .before .before .before .limit-right .ensures)
-    (c .before .ask3 .ensures
-    ∙ ap₂ (λ (y : Bool) (n : ℕ). pick y n 10) (ap₂ _&&_ (c .before .before .before .before .before .before .before .is-tidy .ensures) (c .before .before .before .before .before .before .cares-for-all .ensures))
-    (c .before .before .ask2 .ensures
-    ∙ ap₂ (λ (y : Bool) (n : ℕ). pick y n 11) (c .before .before .before .before .before .is-edge .ensures) (c .before .before .before .ask .ensures)))
+-- ---- the moments of the call
 
--- with no no, the limit is 1 to 16 and the answer has room
-yeses : (c : tie.Else1) → let s = c .before .before .before .before .before .before .before .before .before .before .before in
-    Yeses (runQuestions (fabricIn (now (s .args .file))) (query (s .args .start) (s .args .limit) (s .args .budget) (setOf (s .args .asked))) (now (s .args .area)))
-yeses c =
-    let s = c .before .before .before .before .before .before .before .before .before .before .before in
-    all-yes (runQuestions (fabricIn (now (s .args .file))) (query (s .args .start) (s .args .limit) (s .args .budget) (setOf (s .args .asked))) (now (s .args .area)))
-    (omega arith, (omega arith, (omega arith, (omega arith, tt)))) (sym (asked (c .before)) ∙ c .if1 .left)
+-- the questions were asked
+module _ (c : tie.After-ask4) where
+  abbrev start : tie.Start
+  start = c .before .before .before .before .before .before .before .before .before .before
 
-low-limit : (c : tie.Else1) → c .before .before .before .before .before .before .before .before .before .before .before .args .limit ≤ 16
-low-limit c = limit-range _ (yeses c .0) .1
+  abbrev F : Fabric
+  F = fabricIn (now (start .args .file))
 
+  abbrev q : Query
+  q = query (start .args .start) (start .args .limit) (start .args .budget) (setOf (start .args .asked))
+
+  abbrev area : List ℕ
+  area = now (start .args .area)
+
+  -- the number of the first no
+  asked : c .ask4 .result ≡ firstNo (runQuestions F q area)
+  asked =
+      c .ask4 .ensures
+      ∙ ap₂ (λ (y : Bool) (n : ℕ). pick y n 9) (c .before .before .before .before .limit-right .ensures)
+      (c .before .ask3 .ensures
+      ∙ ap₂ (λ (y : Bool) (n : ℕ). pick y n 10) (ap₂ _&&_ (c .before .before .before .before .before .before .before .is-tidy .ensures) (c .before .before .before .before .before .before .cares-for-all .ensures))
+      (c .before .before .ask2 .ensures
+      ∙ ap₂ (λ (y : Bool) (n : ℕ). pick y n 11) (c .before .before .before .before .before .is-edge .ensures) (c .before .before .before .ask .ensures)))
+
+-- none got a no
+module _ (c : tie.Else1) where
+  none : firstNo (runQuestions (F (c .before)) (q (c .before)) (area (c .before))) ≡ 0
+  none = sym (asked (c .before)) ∙ c .if1 .left
+
+  yeses : Yeses (runQuestions (F (c .before)) (q (c .before)) (area (c .before)))
+  yeses = all-yes (runQuestions (F (c .before)) (q (c .before)) (area (c .before))) (omega arith, (omega arith, (omega arith, (omega arith, tt)))) none
+
+  low-limit : start (c .before) .args .limit ≤ 16
+  low-limit = limit-range _ (yeses .0) .1
+
+-- the header has four words
 four : (c : tie.After-travel) → length (c .travel .result .header) ≡ 4
 four c = search needs
+
+-- ---- the needs
 
 is-tidy-requires : tie.Need-is-tidy-requires
 is-tidy-requires c κs = search needs
@@ -77,13 +95,18 @@ returns : tie.Need-returns
 returns c = no-answered _ _ _ _ (asked (c .before)) (c .if1 .taken)
 
 travel-requires : tie.Need-travel-requires
-travel-requires c κs = (c .before .before .before .before .before .before .before .before .before .before .before .before .pre .0, (c .before .before .before .before .before .before .before .before .before .before .before .before .pre .1 .1, low-limit (c .before)))
+travel-requires c κs =
+    let none-refused = c .before in
+    let pre = start (none-refused .before) .pre in
+    (pre .0, (pre .1 .1, low-limit none-refused))
 
 put-requires : tie.Need-put-requires
 put-requires c κs =
-    let s = c .before .before .before .before .before .before .before .before .before .before .before .before .before .before in (
-      leb-true _ _ (yeses (c .before .before .before) .1 .1 .1 .0),
-      few-hops-then (fabricIn (now (s .args .file))) (s .args .limit) (s .args .start) (s .args .asked .value) (c .before .travel .result) (c .before .travel .ensures) (low-limit (c .before .before .before)),
+    let travelled = c .before in
+    let none-refused = travelled .before .before in
+    let s = start (none-refused .before) in (
+      leb-true _ _ (yeses none-refused .1 .1 .1 .0),
+      few-hops-then (F (none-refused .before)) (s .args .limit) (s .args .start) (s .args .asked .value) (travelled .travel .result) (travelled .travel .ensures) (low-limit none-refused),
     )
 
 same-length : tie.Need-same-length
@@ -91,11 +114,13 @@ same-length c = search needs
 
 returns-2 : tie.Need-returns-2
 returns-2 c =
-    let s = c .before .before .before .before .before .before .before .before .before .before .before .before .before .before .before .before .before in
-    yes-answered _ _ (packetWords (packetRun (fabricIn (now (s .args .file))) (query (s .args .start) (s .args .limit) (s .args .budget) (setOf (s .args .asked))))) (now (s .args .area)) _
-    (sym (asked (c .before .before .before .before .before .before .before)) ∙ c .before .before .before .before .before .before .if1 .left)
-    (words-are-24 (packetRun (fabricIn (now (s .args .file))) (query (s .args .start) (s .args .limit) (s .args .budget) (setOf (s .args .asked)))) (c .before .before .before .before .travel .result) (c .before .before .before .before .travel .ensures) (four (c .before .before .before .before)))
-    (c .before .before .put .ensures ∙ ap (λ (l : List ℕ). writtenAt 0 l (now (s .args .area))) (ap journeyWords (c .before .before .before .before .travel .ensures) ∙ words-same _))
+    let travelled = c .before .before .before .before in
+    let none-refused = travelled .before .before in
+    let packet = packetRun (F (none-refused .before)) (q (none-refused .before)) in
+    yes-answered _ _ (packetWords packet) (area (none-refused .before)) _ (none none-refused)
+    (words-are-24 packet (travelled .travel .result) (travelled .travel .ensures) (four travelled))
+    (c .before .before .put .ensures
+    ∙ ap (λ (l : List ℕ). writtenAt 0 l (area (none-refused .before))) (ap journeyWords (travelled .travel .ensures) ∙ words-same _))
 
 pub run-accepted-spec : {M : Type 1} → statement M
 run-accepted-spec =

@@ -1,4 +1,5 @@
 -- `hop` meets its contract: each return is one of the fates of forwarding. Assumes nothing.
+use mathlib.Core.List.{List}
 use mathlib.Core.Option.{some}
 use mathlib.Core.Path.{_≡_, sym, ap₂, _∙_}
 use Prim.Native.Nat.{ℕ, _<_}
@@ -15,32 +16,48 @@ use Rattle.journey.proofs.Hops.{hopped-ended, hopped-lost, hopped-dropp
 use Rattle.journey.proofs.hop.Statement.{statement}
 use Rattle.journey.proofs.hop.Tie as tie
 
+-- ---- the moments of the hop
+
 -- an entry took the packet
-one-below : (c : tie.Else2) → c .before .before .taker .result < c .before .before .before .before .before .before .before .before .args .shape .entries
-one-below c =
-    let s = c .before .before .before .before .before .before .before .before in
-    omega (arith, entries-are (now (s .args .file)) (s .args .shape) (s .pre .0), c .before .before .taker .ensures .within, c .if2 .left)
+module _ (c : tie.Else2) where
+  abbrev start : tie.Start
+  start = c .before .before .before .before .before .before .before .before
 
-one-took : (c : tie.Else2) → let s = c .before .before .before .before .before .before .before .before in taker (fabricIn (now (s .args .file))) (s .args .j .port) (s .args .j .header) ≡ some (c .before .before .taker .result)
-one-took c =
-    let s = c .before .before .before .before .before .before .before .before in
-    c .before .before .taker .ensures .one-takes (omega (arith, entries-are (now (s .args .file)) (s .args .shape) (s .pre .0), one-below c))
+  abbrev file : List ℕ
+  file = now (start .args .file)
 
-entry-taken : (c : tie.After-entry) → EntryRead (fabricIn (now (c .before .before .before .before .before .before .before .before .before .args .file))) (c .before .before .before .taker .result) (now (c .entry .result))
-entry-taken c =
-    let s = c .before .before .before .before .before .before .before .before .before in
-    entry-read (now (s .args .file)) (s .args .shape) (s .pre .0) (c .before .before .before .taker .result) (one-below (c .before)) _ (c .entry .ensures)
+  abbrev taken : ℕ
+  taken = c .before .before .taker .result
 
-out-is : (c : tie.After-out-port) → outPortOf (fabricIn (now (c .before .before .before .before .before .before .before .before .before .before .args .file))) (c .before .before .before .before .taker .result) ≡ c .out-port .result
+  -- it was travelling
+  travels : start .args .j .fate ≡ 3
+  travels = c .before .before .before .before .before .if1 .left
+
+  one-below : taken < start .args .shape .entries
+  one-below = omega (arith, entries-are file (start .args .shape) (start .pre .0), c .before .before .taker .ensures .within, c .if2 .left)
+
+  one-took : taker (fabricIn file) (start .args .j .port) (start .args .j .header) ≡ some taken
+  one-took = c .before .before .taker .ensures .one-takes (omega (arith, entries-are file (start .args .shape) (start .pre .0), one-below))
+
+-- its bytes, its out-port and the header that it makes were read
+module _ (c : tie.After-entry) where
+  entry-taken : let took = c .before in EntryRead (fabricIn (file took)) (taken took) (now (c .entry .result))
+  entry-taken =
+      let took = c .before in
+      entry-read (file took) (start took .args .shape) (start took .pre .0) (taken took) (one-below took) _ (c .entry .ensures)
+
+out-is : (c : tie.After-out-port) → let took = c .before .before in outPortOf (fabricIn (file took)) (taken took) ≡ c .out-port .result
 out-is c = sym (c .out-port .ensures ∙ entry-taken (c .before) .out-port)
 
-header-is : (c : tie.After-apply) → applied (fabricIn (now (c .before .before .before .before .before .before .before .before .before .before .before .before .args .file))) (c .before .before .before .before .before .before .taker .result) (c .before .before .before .before .before .before .before .before .before .before .before .before .args .j .header) ≡ c .apply .result
+header-is : (c : tie.After-apply) → let took = c .before .before .before .before in applied (fabricIn (file took)) (taken took) (start took .args .j .header) ≡ c .apply .result
 unfolding applied
 header-is c =
-    let s = c .before .before .before .before .before .before .before .before .before .before .before .before in
-    ap₂ (λ (n : ℕ) (r : Rewrite). rewritten n r (s .args .j .header)) (words-are (now (s .args .file)) (s .args .shape) (s .pre .0))
+    let took = c .before .before .before .before in
+    ap₂ (λ (n : ℕ) (r : Rewrite). rewritten n r (start took .args .j .header)) (words-are (file took) (start took .args .shape) (start took .pre .0))
     (sym (c .before .action .ensures ∙ entry-taken (c .before .before .before) .rewrite))
     ∙ sym (c .apply .ensures)
+
+-- ---- the needs
 
 returns : tie.Need-returns
 returns c = hopped-ended _ _ (c .if1 .taken)
@@ -55,9 +72,7 @@ returns-2 c =
     (c .before .before .taker .ensures .none-takes (c .if2 .taken ∙ sym (entries-are (now (s .args .file)) (s .args .shape) (s .pre .0))))
 
 cast-entries : tie.Need-cast-entries
-cast-entries c =
-    let s = c .before .before .before .before .before .before .before .before in
-    omega (arith, one-below c, few-entries (now (s .args .file)) (s .args .shape) (s .pre .0))
+cast-entries c = omega (arith, one-below c, few-entries (file c) (start c .args .shape) (start c .pre .0))
 
 mul-entries : tie.Need-mul-entries
 mul-entries c = search needs
@@ -66,7 +81,7 @@ array-write-entries : tie.Need-array-write-entries
 array-write-entries c = search needs
 
 entry-requires : tie.Need-entry-requires
-entry-requires c κs = (c .before .before .before .before .before .before .before .before .pre .0, one-below c)
+entry-requires c κs = (start c .pre .0, one-below c)
 
 out-port-requires : tie.Need-out-port-requires
 out-port-requires c κs = entry-taken c .bytes .long
@@ -82,28 +97,35 @@ add-t21 c = search needs
 
 returns-3 : tie.Need-returns-3
 returns-3 c =
-    hopped-dropped _ (c .before .before .before .before .before .before .before .before .before .before .before .before .before .args .j) (c .before .before .before .before .before .before .before .before .before .before .if1 .left) _ (one-took (c .before .before .before .before .before)) _ (header-is (c .before))
-    (out-is (c .before .before .before) ∙ c .if3 .taken)
+    let applied = c .before in
+    let took = applied .before .before .before .before in
+    hopped-dropped _ (start took .args .j) (travels took) _ (one-took took) _ (header-is applied) (out-is (applied .before .before) ∙ c .if3 .taken)
 
 link-after-requires : tie.Need-link-after-requires
 link-after-requires c κs =
-    (c .before .before .before .before .before .before .before .before .before .before .before .before .before .pre .0, (c .before .before .before .before .before .before .before .before .before .before .before .before .before .pre .1 .0, omega (arith, c .before .before .before .out-port .ensures, entry-taken (c .before .before .before .before) .bytes .out-high)))
+    let out = c .before .before .before in
+    let pre = start (out .before .before) .pre in
+    (pre .0, (pre .1 .0, omega (arith, out .out-port .ensures, entry-taken (out .before) .bytes .out-high)))
 
 add-t23 : tie.Need-add-t23
 add-t23 c = search needs
 
 returns-4 : tie.Need-returns-4
 returns-4 c =
-    hopped-left _ (c .before .before .before .before .before .before .before .before .before .before .before .before .before .before .before .args .j) (c .before .before .before .before .before .before .before .before .before .before .before .before .if1 .left) _ (one-took (c .before .before .before .before .before .before .before)) _ (header-is (c .before .before .before))
-    _ (out-is (c .before .before .before .before .before)) (c .before .before .if3 .left) (sym (c .before .link-after .ensures) ∙ c .if4 .taken)
+    let applied = c .before .before .before in
+    let took = applied .before .before .before .before in
+    hopped-left _ (start took .args .j) (travels took) _ (one-took took) _ (header-is applied) _ (out-is (applied .before .before))
+    (c .before .before .if3 .left) (sym (c .before .link-after .ensures) ∙ c .if4 .taken)
 
 add-t17 : tie.Need-add-t17
 add-t17 c = search needs
 
 returns-5 : tie.Need-returns-5
 returns-5 c =
-    hopped-on _ (c .before .before .before .before .before .before .before .before .before .before .before .before .before .before .before .args .j) (c .before .before .before .before .before .before .before .before .before .before .before .before .if1 .left) _ (one-took (c .before .before .before .before .before .before .before)) _ (header-is (c .before .before .before))
-    _ _ (out-is (c .before .before .before .before .before)) (c .before .before .if3 .left) (sym (c .before .link-after .ensures)) (c .if4 .left)
+    let applied = c .before .before .before in
+    let took = applied .before .before .before .before in
+    hopped-on _ (start took .args .j) (travels took) _ (one-took took) _ (header-is applied) _ _ (out-is (applied .before .before))
+    (c .before .before .if3 .left) (sym (c .before .link-after .ensures)) (c .if4 .left)
 
 pub hop-spec : {M : Type 1} → statement M
 hop-spec =
