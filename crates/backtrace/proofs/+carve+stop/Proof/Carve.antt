@@ -50,23 +50,23 @@ module _ (t : ℕ) where
 
   pub stop-requires : Met carve-lts.Need-stop-requires
   stop-requires c κs =
-      let pre = c .before .before .before .before .before .before .before .before .before .pre in
-      let in-port = c .before .before .before .before .in-port in
-      let place-at = c .before .before .before .place-at in
-      (omega (arith, pre .0), (pre .1 .0, place-found (pre .1 .0 .asked .fabric) (pre .1 .0 .indexed) (pre .1 .1 .0) _ _ (in-port .ensures) (place-at .ensures)))
+      let at-place-at = c .before .before .before in
+      let at-in-port = at-place-at .before in
+      let start = at-in-port .before .before .before .before .before in
+      (omega (arith, start .pre .0), (start .pre .1 .0, place-found (start .pre .1 .0 .asked .fabric) (start .pre .1 .0 .indexed) (start .pre .1 .1 .0) _ _ (at-in-port .in-port .ensures) (at-place-at .place-at .ensures)))
 
   pub same-length : Met carve-lts.Need-same-length
   same-length c = search needs
 
   pub returns : Met carve-lts.Need-returns
   returns c =
-      let pre = c .before .before .before .before .before .before .before .before .before .before .before .before .pre .1 in
-      let if1 = c .before .before .before .before .before .before .before .before .if1 in
-      let in-port = c .before .before .before .before .before .before .before .in-port in
-      let place-at = c .before .before .before .before .before .before .place-at in
-      let stopped = c .before .before .stop in (
-        through (pre .0 .asked .fabric) (pre .0 .indexed) (pre .1 .0) _ _ (in-port .ensures) (place-at .ensures) _ (if1 .taken) _ _ _ (stopped .ensures .0),
-        stopped .ensures .1,
+      let at-stopped = c .before .before in
+      let at-place-at = at-stopped .before .before .before .before in
+      let at-in-port = at-place-at .before in
+      let at-if1 = at-in-port .before in
+      let start = at-if1 .before .before .before .before in (
+        through (start .pre .1 .0 .asked .fabric) (start .pre .1 .0 .indexed) (start .pre .1 .1 .0) _ _ (at-in-port .in-port .ensures) (at-place-at .place-at .ensures) _ (at-if1 .if1 .taken) _ _ _ (at-stopped .stop .ensures .0),
+        at-stopped .stop .ensures .1,
       )
 
   pub unit-requires : Met carve-lts.Need-unit-requires
@@ -76,25 +76,25 @@ module _ (t : ℕ) where
 
   pub returns-2 : Met carve-lts.Need-returns-2
   returns-2 c =
-      let pre = c .before .before .before .before .before .before .before .pre .1 in
-      let if1 = c .before .before .before .if1 in
-      (trial-refused (pre .1 .1) (if1 .left) (c .before .unit .ensures) (not-true _ (c .if2 .taken)) _ _ _ _, kept-same _ (pre .0 .on-path .long))
+      let at-if1 = c .before .before .before in
+      let start = at-if1 .before .before .before .before in
+      (trial-refused (start .pre .1 .1 .1) (at-if1 .if1 .left) (c .before .unit .ensures) (not-true _ (c .if2 .taken)) _ _ _ _, kept-same _ (start .pre .1 .0 .on-path .long))
 
   pub asked-requires : Met carve-lts.Need-asked-requires
   asked-requires c κs = search needs
 
   pub match-at-requires : Met carve-lts.Need-match-at-requires
   match-at-requires c κs =
-      let pre = c .before .before .before .before .before .before .before .before .pre .1 in
-      let if1 = c .before .before .before .before .if1 in
-      (entries-from (pre .0) (c .asked .ensures), pre .1 .1 .is-entry (omega (arith, pre .1 .1 .within, if1 .left)))
+      let at-if1 = c .before .before .before .before in
+      let start = at-if1 .before .before .before .before in
+      (entries-from (start .pre .1 .0) (c .asked .ensures), start .pre .1 .1 .1 .is-entry (omega (arith, start .pre .1 .1 .1 .within, at-if1 .if1 .left)))
 
   pub beater-after-requires : Met carve-lts.Need-beater-after-requires
   beater-after-requires c κs =
-      let pre = c .before .before .before .before .before .before .before .before .before .pre .1 in
-      let if1 = c .before .before .before .before .before .if1 in (
-        entries-from (pre .0) (c .before .asked .ensures),
-        (pre .0 .indexed, (pre .1 .0, (omega (arith, pre .1 .1 .within, if1 .left), pre .1 .1))),
+      let at-if1 = c .before .before .before .before .before in
+      let start = at-if1 .before .before .before .before in (
+        entries-from (start .pre .1 .0) (c .before .asked .ensures),
+        (start .pre .1 .0 .indexed, (start .pre .1 .1 .0, (omega (arith, start .pre .1 .1 .1 .within, at-if1 .if1 .left), start .pre .1 .1 .1))),
       )
 
   pub overlaps-requires : Met carve-lts.Need-overlaps-requires
@@ -102,11 +102,11 @@ module _ (t : ℕ) where
 
   pub carve-requires : Met carve-lts.Need-carve-requires
   carve-requires c κs =
-      let pre = c .before .before .before .before .before .before .before .before .before .before .before .before .before .before .before .pre in
-      let unit = c .before .before .before .before .before .before .before .before .before .unit in
-      let beater-after = c .before .before .before .before .before .beater-after in (
-        omega (arith, pre .0, beater-after .ensures .low, beater-after .ensures .beater .within),
-        (after-unit (pre .1 .0) (unit .ensures), (pre .1 .1 .0, beater-after .ensures .beater)),
+      let at-beater-after = c .before .before .before .before .before in
+      let at-unit = at-beater-after .before .before .before .before in
+      let start = at-unit .before .before .before .before .before .before in (
+        omega (arith, start .pre .0, at-beater-after .beater-after .ensures .low, at-beater-after .beater-after .ensures .beater .within),
+        (after-unit (start .pre .1 .0) (at-unit .unit .ensures), (start .pre .1 .1 .0, at-beater-after .beater-after .ensures .beater)),
       )
 
   pub same-length-2 : Met carve-lts.Need-same-length-2
@@ -114,30 +114,28 @@ module _ (t : ℕ) where
 
   pub returns-3 : Met carve-lts.Need-returns-3
   returns-3 c =
-      let pre = c .before .before .before .before .before .before .before .before .before .before .before .before .before .before .before .before .before .before .pre .1 in
-      let if1 = c .before .before .before .before .before .before .before .before .before .before .before .before .before .before .if1 in
-      let unit = c .before .before .before .before .before .before .before .before .before .before .before .before .unit in
-      let if2 = c .before .before .before .before .before .before .before .before .before .before .before .if2 in
-      let match-at = c .before .before .before .before .before .before .before .before .before .match-at in
-      let beater-after = c .before .before .before .before .before .before .before .before .beater-after in
-      let overlaps = c .before .before .before .before .before .before .before .overlaps in
-      let if3 = c .before .before .before .before .before .before .if3 in
-      let carved = c .before .before .carve in (
-        trial-apart _ (pre .1 .1) (if1 .left) (unit .ensures) (not-false _ (if2 .left)) (beater-after .ensures) (match-at .ensures)
-            _ _ _ _ (overlaps .ensures) (not-true _ (if3 .taken)) (carved .ensures .0),
-        carved .ensures .1,
+      let at-carved = c .before .before in
+      let at-if3 = at-carved .before .before .before .before in
+      let at-overlaps = at-if3 .before in
+      let at-beater-after = at-overlaps .before in
+      let at-match-at = at-beater-after .before in
+      let at-if2 = at-match-at .before .before in
+      let at-unit = at-if2 .before in
+      let at-if1 = at-unit .before .before in
+      let start = at-if1 .before .before .before .before in (
+        trial-apart _ (start .pre .1 .1 .1) (at-if1 .if1 .left) (at-unit .unit .ensures) (not-false _ (at-if2 .if2 .left)) (at-beater-after .beater-after .ensures) (at-match-at .match-at .ensures)
+            _ _ _ _ (at-overlaps .overlaps .ensures) (not-true _ (at-if3 .if3 .taken)) (at-carved .carve .ensures .0),
+        at-carved .carve .ensures .1,
       )
 
   pub loop-holds : Met carve-lts.Need-loop-holds
   loop-holds c =
-      let pre = c .before .before .before .before .before .before .before .before .before .before .before .before .pre .1 in
-      let args = c .before .before .before .before .before .before .before .before .before .before .before .before .args in
-      let good = c .before .before .before .before .before .before .before .before .before .before .before .before .good in
-      let if1 = c .before .before .before .before .before .before .before .before .if1 in
-      let unit = c .before .before .before .before .before .before .unit in
-      let match-at = c .before .before .before .match-at in
-      first-part (after-unit (pre .0) (unit .ensures)) (pre .1 .1) (if1 .left) _ (match-at .ensures) (setOf (args .p))
-      (array-words 4 (args .p .care) (search (needs, good .1 .1 .1 .1 .1 .1 .1 .0)) (λ w. search (needs, good .1 .1 .1 .1 .1 .1 .1 .0)))
+      let at-match-at = c .before .before .before in
+      let at-unit = at-match-at .before .before .before in
+      let at-if1 = at-unit .before .before in
+      let start = at-if1 .before .before .before .before in
+      first-part (after-unit (start .pre .1 .0) (at-unit .unit .ensures)) (start .pre .1 .1 .1) (at-if1 .if1 .left) _ (at-match-at .match-at .ensures) (setOf (start .args .p))
+      (array-words 4 (start .args .p .care) (search (needs, start .good .1 .1 .1 .1 .1 .1 .1 .0)) (λ w. search (needs, start .good .1 .1 .1 .1 .1 .1 .1 .0)))
 
   pub next-part-requires : Met carve-lts.Need-next-part-requires
   next-part-requires c κs = search needs
@@ -172,65 +170,65 @@ module _ (t : ℕ) where
 
   pub carve-requires-2 : Met carve-lts.Need-carve-requires-2
   carve-requires-2 c κs =
-      let pre = c .before .before .before .before .before .before .before .before .before .before .before .before .before .before .before .before .before .before .before .before .before .pre in
-      let beater-after = c .before .before .before .before .before .before .before .before .before .before .before .beater-after in
-      let loop = c .before .before .before .before .before .before .before .before .loop in (
-        omega (arith, pre .0, beater-after .ensures .low, beater-after .ensures .beater .within),
-        (loop .inv .tracing, (pre .1 .1 .0, beater-after .ensures .beater)),
+      let at-loop = c .before .before .before .before .before .before .before .before in
+      let at-beater-after = at-loop .before .before .before in
+      let start = at-beater-after .before .before .before .before .before .before .before .before .before .before in (
+        omega (arith, start .pre .0, at-beater-after .beater-after .ensures .low, at-beater-after .beater-after .ensures .beater .within),
+        (at-loop .loop .inv .tracing, (start .pre .1 .1 .0, at-beater-after .beater-after .ensures .beater)),
       )
 
   pub same-length-4 : Met carve-lts.Need-same-length-4
   same-length-4 c =
-      let loop = c .before .before .before .before .before .before .before .before .before .before .before .loop in
-      let carved = c .before .before .carve2 in
-      carved .kept .1 .1 .1 .0 ∙ loop .inv .area-long
+      let at-carved = c .before .before in
+      let at-loop = at-carved .before .before .before .before .before .before .before .before .before in
+      at-carved .carve2 .kept .1 .1 .1 .0 ∙ at-loop .loop .inv .area-long
 
   pub returns-5 : Met carve-lts.Need-returns-5
   returns-5 c =
-      let loop = c .before .before .before .before .before .before .before .before .before .before .before .loop in
-      let next-part = c .before .before .before .before .before .before .before .before .before .before .next-part in
-      let if4 = c .before .before .before .before .before .before .before .before .if4 in
-      let carved = c .before .before .carve2 in (
-        part-last (loop .inv) (next-part .ensures) (not-false _ (if4 .left)) (carved .ensures .0) (c .before .before .before .before .before .before .if5 .taken) (whole (c .before .before .before .before .before .before .before .before .before .before .before)),
-        kept-on (loop .inv .kept) (carved .ensures .1),
+      let at-carved = c .before .before in
+      let at-if4 = at-carved .before .before .before .before .before .before in
+      let at-next-part = at-if4 .before .before in
+      let at-loop = at-next-part .before in (
+        part-last (at-loop .loop .inv) (at-next-part .next-part .ensures) (not-false _ (at-if4 .if4 .left)) (at-carved .carve2 .ensures .0) (c .before .before .before .before .before .before .if5 .taken) (whole (c .before .before .before .before .before .before .before .before .before .before .before)),
+        kept-on (at-loop .loop .inv .kept) (at-carved .carve2 .ensures .1),
       )
 
   pub carve-requires-3 : Met carve-lts.Need-carve-requires-3
   carve-requires-3 c κs =
-      let pre = c .before .before .before .before .before .before .before .before .before .before .before .before .before .before .before .before .before .before .before .before .before .pre in
-      let beater-after = c .before .before .before .before .before .before .before .before .before .before .before .beater-after in
-      let loop = c .before .before .before .before .before .before .before .before .loop in (
-        omega (arith, pre .0, beater-after .ensures .low, beater-after .ensures .beater .within),
-        (loop .inv .tracing, (pre .1 .1 .0, beater-after .ensures .beater)),
+      let at-loop = c .before .before .before .before .before .before .before .before in
+      let at-beater-after = at-loop .before .before .before in
+      let start = at-beater-after .before .before .before .before .before .before .before .before .before .before in (
+        omega (arith, start .pre .0, at-beater-after .beater-after .ensures .low, at-beater-after .beater-after .ensures .beater .within),
+        (at-loop .loop .inv .tracing, (start .pre .1 .1 .0, at-beater-after .beater-after .ensures .beater)),
       )
 
   pub same-length-5 : Met carve-lts.Need-same-length-5
   same-length-5 c =
-      let loop = c .before .before .before .before .before .before .before .before .before .before .before .before .loop in
-      let carved = c .before .before .before .carve3 in
-      carved .kept .1 .1 .1 .0 ∙ loop .inv .area-long
+      let at-carved = c .before .before .before in
+      let at-loop = at-carved .before .before .before .before .before .before .before .before .before in
+      at-carved .carve3 .kept .1 .1 .1 .0 ∙ at-loop .loop .inv .area-long
 
   pub returns-6 : Met carve-lts.Need-returns-6
   returns-6 c =
-      let loop = c .before .before .before .before .before .before .before .before .before .before .before .before .loop in
-      let next-part = c .before .before .before .before .before .before .before .before .before .before .before .next-part in
-      let if4 = c .before .before .before .before .before .before .before .before .before .if4 in
-      let carved = c .before .before .before .carve3 in (
-        part-ended (loop .inv) (next-part .ensures) (not-false _ (if4 .left)) (carved .ensures .0) (c .if6 .taken) (whole (c .before .before .before .before .before .before .before .before .before .before .before .before)),
-        kept-on (loop .inv .kept) (carved .ensures .1),
+      let at-carved = c .before .before .before in
+      let at-if4 = at-carved .before .before .before .before .before .before in
+      let at-next-part = at-if4 .before .before in
+      let at-loop = at-next-part .before in (
+        part-ended (at-loop .loop .inv) (at-next-part .next-part .ensures) (not-false _ (at-if4 .if4 .left)) (at-carved .carve3 .ensures .0) (c .if6 .taken) (whole (c .before .before .before .before .before .before .before .before .before .before .before .before)),
+        kept-on (at-loop .loop .inv .kept) (at-carved .carve3 .ensures .1),
       )
 
   pub loop-less : Met carve-lts.Need-loop-less
   loop-less c =
-      let loop = c .before .before .before .before .before .before .before .before .before .before .before .before .before .loop in
-      let next-part = c .before .before .before .before .before .before .before .before .before .before .before .before .next-part in
-      let if4 = c .before .before .before .before .before .before .before .before .before .before .if4 in
-      fewer-parts (loop .inv) (next-part .ensures) (not-false _ (if4 .left))
+      let at-if4 = c .before .before .before .before .before .before .before .before .before .before in
+      let at-next-part = at-if4 .before .before in
+      let at-loop = at-next-part .before in
+      fewer-parts (at-loop .loop .inv) (at-next-part .next-part .ensures) (not-false _ (at-if4 .if4 .left))
 
   pub loop-again : Met carve-lts.Need-loop-again
   loop-again c =
-      let loop = c .before .before .before .before .before .before .before .before .before .before .before .before .before .loop in
-      let next-part = c .before .before .before .before .before .before .before .before .before .before .before .before .next-part in
-      let if4 = c .before .before .before .before .before .before .before .before .before .before .if4 in
-      let carved = c .before .before .before .before .carve3 in
-      part-through (loop .inv) (next-part .ensures) (not-false _ (if4 .left)) (carved .ensures .0) (c .before .if6 .left) (carved .ensures .1) (carved .kept .1 .1 .1 .0)
+      let at-carved = c .before .before .before .before in
+      let at-if4 = at-carved .before .before .before .before .before .before in
+      let at-next-part = at-if4 .before .before in
+      let at-loop = at-next-part .before in
+      part-through (at-loop .loop .inv) (at-next-part .next-part .ensures) (not-false _ (at-if4 .if4 .left)) (at-carved .carve3 .ensures .0) (c .before .if6 .left) (at-carved .carve3 .ensures .1) (at-carved .carve3 .kept .1 .1 .1 .0)

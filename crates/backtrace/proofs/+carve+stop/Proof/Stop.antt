@@ -40,11 +40,10 @@ module _ (t : ℕ) where
 
   pub returns : Met stop-lts.Need-returns
   returns c =
-      let args = c .before .before .before .before .before .before .before .before .before .args in
-      let pre = c .before .before .before .before .before .before .before .before .before .pre .1 in
-      let if1 = c .before .before .before .before .before .before .if1 in
-      let found = c .before .before .found in
-      (at-edge _ (args .d) _ (now (args .path)) (setOf (args .t)) _ _ _ (if1 .taken) (found .ensures .0) (found .ensures .1) _, kept-same _ (pre .0 .on-path .long))
+      let at-found = c .before .before in
+      let at-if1 = at-found .before .before .before .before in
+      let start = at-if1 .before .before .before in
+      (at-edge _ (start .args .d) _ (now (start .args .path)) (setOf (start .args .t)) _ _ _ (at-if1 .if1 .taken) (at-found .found .ensures .0) (at-found .found .ensures .1) _, kept-same _ (start .pre .1 .0 .on-path .long))
 
   pub returns-2 : Met stop-lts.Need-returns-2
   returns-2 c =
@@ -70,11 +69,11 @@ module _ (t : ℕ) where
 
   pub loop-holds : Met stop-lts.Need-loop-holds
   loop-holds c =
-      let pre = c .before .before .before .before .before .before .before .before .pre .1 in
-      let if1 = c .before .before .before .before .before .if1 in
-      let if2 = c .before .before .before .before .if2 in
-      let asked = c .before .before .before .asked in
-      first-entry (pre .0) _ _ _ _ (if1 .left) (if2 .left) (asked .ensures) (c .before .before .if3 .left) (c .first-out .ensures)
+      let at-asked = c .before .before .before in
+      let at-if2 = at-asked .before in
+      let at-if1 = at-if2 .before in
+      let start = at-if1 .before .before .before in
+      first-entry (start .pre .1 .0) _ _ _ _ (at-if1 .if1 .left) (at-if2 .if2 .left) (at-asked .asked .ensures) (c .before .before .if3 .left) (c .first-out .ensures)
 
   pub unit-requires : Met stop-lts.Need-unit-requires
   unit-requires c κs = c .before .before .loop .inv .tracing .room .counters-long
@@ -92,11 +91,11 @@ module _ (t : ℕ) where
 
   pub entry-at-requires : Met stop-lts.Need-entry-at-requires
   entry-at-requires c κs =
-      let pre = c .before .before .before .before .before .before .before .before .before .before .before .before .before .pre .1 in
-      let base = c .before .before .before .before .before .before .asked2 in
-      let loop = c .before .before .before .before .loop in
-      let loop-test = c .before .before .before .loop-test in
-      (entries-from (pre .0) (base .ensures), loop .inv .in-chain .is-entry (loop-test .taken))
+      let at-loop-test = c .before .before .before in
+      let at-loop = at-loop-test .before in
+      let at-base = at-loop .before .before in
+      let start = at-base .before .before .before .before .before .before .before in
+      (entries-from (start .pre .1 .0) (at-base .asked2 .ensures), at-loop .loop .inv .in-chain .is-entry (at-loop-test .loop-test .taken))
 
   pub before-requires : Met stop-lts.Need-before-requires
   before-requires c κs =
@@ -115,17 +114,17 @@ module _ (t : ℕ) where
 
   pub push-requires : Met stop-lts.Need-push-requires
   push-requires c κs =
-      let pre = c .before .before .before .before .before .before .before .before .before .before .before .before .before .before .before .before .before .before .before .pre .1 in
-      let if3 = c .before .before .before .before .before .before .before .before .before .before .before .before .before .if3 in
-      let loop-test = c .before .before .before .before .before .before .before .before .before .loop-test in
-      omega (arith, pre .0 .on-path .within, if3 .left, loop-test .taken)
+      let at-loop-test = c .before .before .before .before .before .before .before .before .before in
+      let at-if3 = at-loop-test .before .before .before .before in
+      let start = at-if3 .before .before .before .before .before .before in
+      omega (arith, start .pre .1 .0 .on-path .within, at-if3 .if3 .left, at-loop-test .loop-test .taken)
 
   pub first-beater-requires : Met stop-lts.Need-first-beater-requires
   first-beater-requires c κs =
-      let pre = c .before .before .before .before .before .before .before .before .before .before .before .before .before .before .before .before .before .before .before .before .pre .1 in
-      let base = c .before .before .before .before .before .before .before .before .before .before .before .before .before .asked2 in
-      let entry-at = c .before .before .before .before .before .before .entry-at in
-      (entries-from (pre .0) (base .ensures), (pre .0 .indexed, entry-at .ensures))
+      let at-entry-at = c .before .before .before .before .before .before in
+      let at-base = at-entry-at .before .before .before .before .before .before .before in
+      let start = at-base .before .before .before .before .before .before .before in
+      (entries-from (start .pre .1 .0) (at-base .asked2 .ensures), (start .pre .1 .0 .indexed, at-entry-at .entry-at .ensures))
 
   pub sub-carve : Met stop-lts.Need-sub-carve
   sub-carve c =
@@ -134,82 +133,82 @@ module _ (t : ℕ) where
 
   pub carve-requires : Met stop-lts.Need-carve-requires
   carve-requires c κs =
-      let pre = c .before .before .before .before .before .before .before .before .before .before .before .before .before .before .before .before .before .before .before .before .before .before .before .before .pre in
-      let if3 = c .before .before .before .before .before .before .before .before .before .before .before .before .before .before .before .before .before .before .if3 in
-      let loop = c .before .before .before .before .before .before .before .before .before .before .before .before .before .before .before .loop in
-      let loop-test = c .before .before .before .before .before .before .before .before .before .before .before .before .before .before .loop-test in
-      let unit = c .before .before .before .before .before .before .before .before .before .before .before .before .unit in
-      let entry-at = c .before .before .before .before .before .before .before .before .before .before .entry-at in
-      let push = c .before .before .before .before .push in
-      let first-beater = c .before .before .before .first-beater in (
-        omega (arith, pre .0, if3 .left),
+      let at-first-beater = c .before .before .before in
+      let at-push = at-first-beater .before in
+      let at-entry-at = at-push .before .before .before .before .before .before in
+      let at-unit = at-entry-at .before .before in
+      let at-loop-test = at-unit .before .before in
+      let at-loop = at-loop-test .before in
+      let at-if3 = at-loop .before .before .before in
+      let start = at-if3 .before .before .before .before .before .before in (
+        omega (arith, start .pre .0, at-if3 .if3 .left),
         (
-          after-push (after-unit (loop .inv .tracing) (unit .ensures)) (loop .inv .hop-left) (loop-test .taken) (push .ensures),
-          (entry-at .ensures, first-beater .ensures .beater),
+          after-push (after-unit (at-loop .loop .inv .tracing) (at-unit .unit .ensures)) (at-loop .loop .inv .hop-left) (at-loop-test .loop-test .taken) (at-push .push .ensures),
+          (at-entry-at .entry-at .ensures, at-first-beater .first-beater .ensures .beater),
         ),
       )
 
   pub same-length-3 : Met stop-lts.Need-same-length-3
   same-length-3 c =
-      let loop = c .before .before .before .before .before .before .before .before .before .before .before .before .before .before .before .before .before .before .before .loop in
-      let carved = c .before .before .before .carve in
-      carved .kept .1 .1 .1 .0 ∙ loop .inv .area-long
+      let at-carved = c .before .before .before in
+      let at-loop = at-carved .before .before .before .before .before .before .before .before .before .before .before .before .before .before .before .before in
+      at-carved .carve .kept .1 .1 .1 .0 ∙ at-loop .loop .inv .area-long
 
   pub returns-5 : Met stop-lts.Need-returns-5
   returns-5 c =
-      let loop = c .before .before .before .before .before .before .before .before .before .before .before .before .before .before .before .before .before .before .before .loop in
-      let loop-test = c .before .before .before .before .before .before .before .before .before .before .before .before .before .before .before .before .before .before .loop-test in
-      let unit = c .before .before .before .before .before .before .before .before .before .before .before .before .before .before .before .before .unit in
-      let if4 = c .before .before .before .before .before .before .before .before .before .before .before .before .before .before .before .if4 in
-      let entry-at = c .before .before .before .before .before .before .before .before .before .before .before .before .before .before .entry-at in
-      let back = c .before .before .before .before .before .before .before .before .before .before .before .before .before .before2 in
-      let if5 = c .before .before .before .before .before .before .before .before .before .before .before .if5 in
-      let push = c .before .before .before .before .before .before .before .before .push in
-      let first-beater = c .before .before .before .before .before .before .before .first-beater in
-      let carved = c .before .before .before .carve in (
-        entry-ended (loop .inv) (loop-test .taken) (unit .ensures) (not-false _ (if4 .left)) (entry-at .ensures) (back .ensures)
-            (if5 .taken) (push .ensures) (first-beater .ensures) (carved .ensures .0) (c .if6 .taken),
-        kept-on (loop .inv .kept) (kept-under (loop .inv) (push .ensures) (carved .ensures .1)),
+      let at-carved = c .before .before .before in
+      let at-first-beater = at-carved .before .before .before .before in
+      let at-push = at-first-beater .before in
+      let at-if5 = at-push .before .before .before in
+      let at-back = at-if5 .before .before in
+      let at-entry-at = at-back .before in
+      let at-if4 = at-entry-at .before in
+      let at-unit = at-if4 .before in
+      let at-loop-test = at-unit .before .before in
+      let at-loop = at-loop-test .before in (
+        entry-ended (at-loop .loop .inv) (at-loop-test .loop-test .taken) (at-unit .unit .ensures) (not-false _ (at-if4 .if4 .left)) (at-entry-at .entry-at .ensures) (at-back .before2 .ensures)
+            (at-if5 .if5 .taken) (at-push .push .ensures) (at-first-beater .first-beater .ensures) (at-carved .carve .ensures .0) (c .if6 .taken),
+        kept-on (at-loop .loop .inv .kept) (kept-under (at-loop .loop .inv) (at-push .push .ensures) (at-carved .carve .ensures .1)),
       )
 
   pub loop-less : Met stop-lts.Need-loop-less
   loop-less c =
-      let loop = c .before .before .before .before .before .before .before .before .before .before .before .before .before .before .before .before .before .before .before .loop in
-      let loop-test = c .before .before .before .before .before .before .before .before .before .before .before .before .before .before .before .before .before .before .loop-test in
-      let next-out = c .before .before .before .before .before .before .before .before .before .before .before .before .next-out in
-      omega (arith, later-entry (loop .inv) (loop-test .taken) (next-out .ensures), loop-test .taken)
+      let at-next-out = c .before .before .before .before .before .before .before .before .before .before .before .before in
+      let at-loop-test = at-next-out .before .before .before .before .before .before in
+      let at-loop = at-loop-test .before in
+      omega (arith, later-entry (at-loop .loop .inv) (at-loop-test .loop-test .taken) (at-next-out .next-out .ensures), at-loop-test .loop-test .taken)
 
   pub loop-again : Met stop-lts.Need-loop-again
   loop-again c =
-      let loop = c .before .before .before .before .before .before .before .before .before .before .before .before .before .before .before .before .before .before .before .loop in
-      let loop-test = c .before .before .before .before .before .before .before .before .before .before .before .before .before .before .before .before .before .before .loop-test in
-      let unit = c .before .before .before .before .before .before .before .before .before .before .before .before .before .before .before .before .unit in
-      let if4 = c .before .before .before .before .before .before .before .before .before .before .before .before .before .before .before .if4 in
-      let entry-at = c .before .before .before .before .before .before .before .before .before .before .before .before .before .before .entry-at in
-      let back = c .before .before .before .before .before .before .before .before .before .before .before .before .before .before2 in
-      let next-out = c .before .before .before .before .before .before .before .before .before .before .before .before .next-out in
-      let if5 = c .before .before .before .before .before .before .before .before .before .before .before .if5 in
-      let push = c .before .before .before .before .before .before .before .before .push in
-      let first-beater = c .before .before .before .before .before .before .before .first-beater in
-      let carved = c .before .before .before .carve in
-      entry-through (loop .inv) (loop-test .taken) (unit .ensures) (not-false _ (if4 .left)) (entry-at .ensures) (back .ensures)
-      (if5 .taken) (push .ensures) (first-beater .ensures) (carved .ensures .0) (c .if6 .left) (next-out .ensures) (carved .ensures .1) (carved .kept .1 .1 .1 .0)
+      let at-carved = c .before .before .before in
+      let at-first-beater = at-carved .before .before .before .before in
+      let at-push = at-first-beater .before in
+      let at-if5 = at-push .before .before .before in
+      let at-next-out = at-if5 .before in
+      let at-back = at-next-out .before in
+      let at-entry-at = at-back .before in
+      let at-if4 = at-entry-at .before in
+      let at-unit = at-if4 .before in
+      let at-loop-test = at-unit .before .before in
+      let at-loop = at-loop-test .before in
+      entry-through (at-loop .loop .inv) (at-loop-test .loop-test .taken) (at-unit .unit .ensures) (not-false _ (at-if4 .if4 .left)) (at-entry-at .entry-at .ensures) (at-back .before2 .ensures)
+      (at-if5 .if5 .taken) (at-push .push .ensures) (at-first-beater .first-beater .ensures) (at-carved .carve .ensures .0) (c .if6 .left) (at-next-out .next-out .ensures) (at-carved .carve .ensures .1) (at-carved .carve .kept .1 .1 .1 .0)
 
   pub loop-less-2 : Met stop-lts.Need-loop-less-2
   loop-less-2 c =
-      let loop = c .before .before .before .before .before .before .before .before .loop in
-      let loop-test = c .before .before .before .before .before .before .before .loop-test in
-      omega (arith, later-entry (loop .inv) (loop-test .taken) (c .before .next-out .ensures), loop-test .taken)
+      let at-loop-test = c .before .before .before .before .before .before .before in
+      let at-loop = at-loop-test .before in
+      omega (arith, later-entry (at-loop .loop .inv) (at-loop-test .loop-test .taken) (c .before .next-out .ensures), at-loop-test .loop-test .taken)
 
   pub loop-again-2 : Met stop-lts.Need-loop-again-2
   loop-again-2 c =
-      let loop = c .before .before .before .before .before .before .before .before .loop in
-      let loop-test = c .before .before .before .before .before .before .before .loop-test in
-      let unit = c .before .before .before .before .before .unit in
-      let if4 = c .before .before .before .before .if4 in
-      let entry-at = c .before .before .before .entry-at in
-      let back = c .before .before .before2 in
-      entry-empty (loop .inv) (loop-test .taken) (unit .ensures) (not-false _ (if4 .left)) (entry-at .ensures) (back .ensures) (c .if5 .left) (c .before .next-out .ensures)
+      let at-back = c .before .before in
+      let at-entry-at = at-back .before in
+      let at-if4 = at-entry-at .before in
+      let at-unit = at-if4 .before in
+      let at-loop-test = at-unit .before .before in
+      let at-loop = at-loop-test .before in
+      entry-empty (at-loop .loop .inv) (at-loop-test .loop-test .taken) (at-unit .unit .ensures) (not-false _ (at-if4 .if4 .left)) (at-entry-at .entry-at .ensures) (at-back .before2 .ensures) (c .if5 .left) (c .before .next-out .ensures)
 
   pub same-length-4 : Met stop-lts.Need-same-length-4
   same-length-4 c = c .before .loop .inv .area-long
