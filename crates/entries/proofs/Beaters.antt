@@ -1,16 +1,15 @@
 -- The beaters of an entry, along the chain of its in-port. Assumes nothing.
-use mathlib.Core.Bool.{Bool, true, false, _&&_, _||_, true≢false}
+use mathlib.Core.Bool.{Bool, true, false, _&&_, true≢false}
 use mathlib.Core.List.{List, [], _∷_}
 use mathlib.Core.Path.{_≡_, sym, ap, ap₂, _∙_}
 use Prim.Native.Nat.{ℕ, suc, _+_, _-_, _≤_, _<_}
 use native.Mathlib.Decide.{ℕ-discrete, decLt}
 use native.Mathlib.Omega.{arith}
-use borrow.Author.Tests.{lt-ltb, le-ltb, eq-eqb, ne-eqb}
-use lib.Dec.{eqb, ltb}
+use borrow.Author.Tests.{eq-eqb, ne-eqb}
 use lib.ListN.{getD}
 use Rattle.headers.specs.Bits.{positions, those}
 use Rattle.records.specs.Records.{entryIn, entryPriority}
-use Rattle.forwarding.specs.Fabric.{Fabric, inPortOf, priorityOf, beats}
+use Rattle.forwarding.specs.Fabric.{Fabric, inPortOf, priorityOf, outranks, beats}
 use Rattle.forwarding.specs.BackTrace.{beaters}
 use Rattle.model.specs.Model.{AFabric, fabricIn}
 use Rattle.index.specs.Chains.{noEntry}
@@ -45,7 +44,7 @@ module _ (f : Fabric) (b e : ℕ) where
   -- "an entry beats another with the same in-port"
   pub other-port : (inPortOf f b ≡ inPortOf f e → ⊥) → beats f b e ≡ false
   unfolding beats
-  other-port h = ap (λ (x : Bool). x && (ltb (priorityOf f e) (priorityOf f b) || eqb (priorityOf f b) (priorityOf f e) && ltb b e)) (ne-eqb _ _ h)
+  other-port h = ap (λ (x : Bool). x && outranks (priorityOf f b) b (priorityOf f e) e) (ne-eqb _ _ h)
 
   pub beater-port : beats f b e ≡ true → inPortOf f b ≡ inPortOf f e
   beater-port h = go (ℕ-discrete (inPortOf f b) (inPortOf f e))
@@ -54,38 +53,18 @@ module _ (f : Fabric) (b e : ℕ) where
       go (yes d) = d
       go (no d) = absurd (true≢false (sym h ∙ other-port d))
 
-  module _ (same : inPortOf f b ≡ inPortOf f e) where
-    by-priority : beats f b e ≡ (ltb (priorityOf f e) (priorityOf f b) || eqb (priorityOf f b) (priorityOf f e) && ltb b e)
-    unfolding beats
-    by-priority = ap (λ (x : Bool). x && (ltb (priorityOf f e) (priorityOf f b) || eqb (priorityOf f b) (priorityOf f e) && ltb b e)) (eq-eqb _ _ same)
-
-    -- "if its priority is higher"
-    pub higher : priorityOf f e < priorityOf f b → beats f b e ≡ true
-    higher h = by-priority ∙ ap (λ (x : Bool). x || eqb (priorityOf f b) (priorityOf f e) && ltb b e) (lt-ltb _ _ h)
-
-    -- "or equal and it stands earlier in the file"
-    pub not-higher : priorityOf f b ≤ priorityOf f e → beats f b e ≡ (eqb (priorityOf f b) (priorityOf f e) && ltb b e)
-    not-higher h = by-priority ∙ ap (λ (x : Bool). x || eqb (priorityOf f b) (priorityOf f e) && ltb b e) (le-ltb _ _ h)
+  pub same-port : inPortOf f b ≡ inPortOf f e → beats f b e ≡ outranks (priorityOf f b) b (priorityOf f e) e
+  unfolding beats
+  same-port same = ap (λ (x : Bool). x && outranks (priorityOf f b) b (priorityOf f e) e) (eq-eqb _ _ same)
 
 -- the same from the entries' own bytes, as the code compares them
 module _ {f : List ℕ} (a : AFabric f) {e b : ℕ} {x y : List ℕ} (i : IsEntry f e x) (k : IsEntry f b y)
-    (same : inPortOf (fabricIn f) b ≡ inPortOf (fabricIn f) e) {q r : ℕ} (hq : q ≡ entryPriority x) (hr : r ≡ entryPriority y) where
-  pub reads-higher : q < r → beats (fabricIn f) b e ≡ true
-  reads-higher l = higher (fabricIn f) b e same (rw (priority-is a i, priority-is a k, ← hq, ← hr) l)
-
-  pub reads-not-higher : r ≤ q → {t : Bool} → (eqb q r && ltb b e) ≡ t → beats (fabricIn f) b e ≡ t
-  reads-not-higher l h =
-      not-higher (fabricIn f) b e same (rw (priority-is a i, priority-is a k, ← hq, ← hr) l)
-      ∙ ap₂ (λ (p o : ℕ). eqb p o && ltb b e) (priority-is a k ∙ sym hr) (priority-is a i ∙ sym hq)
-      ∙ ap (λ (z : Bool). z && ltb b e) (turned q r)
-      ∙ h
-    where
-      turned : (m n : ℕ) → eqb n m ≡ eqb m n
-      turned m n = go (ℕ-discrete m n)
-        where
-          go : Dec (m ≡ n) → eqb n m ≡ eqb m n
-          go (yes d) = eq-eqb n m (sym d) ∙ sym (eq-eqb m n d)
-          go (no d) = ne-eqb n m (λ z. d (sym z)) ∙ sym (ne-eqb m n d)
+    (same : inPortOf (fabricIn f) b ≡ inPortOf (fabricIn f) e) {p q : ℕ} (hq : q ≡ entryPriority x) (hp : p ≡ entryPriority y) where
+  pub reads-beats : {t : Bool} → t ≡ outranks p b q e → beats (fabricIn f) b e ≡ t
+  reads-beats h =
+      same-port (fabricIn f) b e same
+      ∙ ap₂ (λ (m n : ℕ). outranks m b n e) (priority-is a k ∙ sym hp) (priority-is a i ∙ sym hq)
+      ∙ sym h
 
 -- ---- the chain of an entry's in-port
 

@@ -32,6 +32,10 @@ pub record Fabric : Type 0 where
   pub linkTo : ℕ → ℕ
   pub linkFrom : ℕ → ℕ
 
+-- entry b with priority p and entry e with priority q: "its priority is higher, or equal and it stands earlier in the file"
+abbrev pub outranks : ℕ → ℕ → ℕ → ℕ → Bool
+outranks p b q e = ltb q p || eqb p q && ltb b e
+
 module _ (f : Fabric) where
   abbrev pub inPortOf : ℕ → ℕ
   inPortOf e = f .entry e .inPort
@@ -52,9 +56,7 @@ module _ (f : Fabric) where
 
   -- "an entry beats another with the same in-port if its priority is higher, or equal and it stands earlier in the file"
   unfoldable pub beats : ℕ → ℕ → Bool
-  beats b e =
-      eqb (inPortOf b) (inPortOf e)
-      && (ltb (priorityOf e) (priorityOf b) || eqb (priorityOf b) (priorityOf e) && ltb b e)
+  beats b e = eqb (inPortOf b) (inPortOf e) && outranks (priorityOf b) b (priorityOf e) e
 
   -- what entry e makes of a header that it takes: "It rewrites"
   unfoldable pub applied : ℕ → Header → Header

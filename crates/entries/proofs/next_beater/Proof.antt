@@ -1,9 +1,11 @@
 -- `next_beater` meets its contract. The loop's invariant: none of those passed beats the entry. Assumes nothing.
+use mathlib.Core.Path.{sym, _∙_}
 use Prim.Native.Nat.{_-_}
+use borrow.Author.Needs.{needs}
 use native.Mathlib.Omega.{arith}
 use Rattle.model.specs.Model.{fabricIn}
 use Rattle.entries.proofs.Entries.{entries-few, entry-long}
-use Rattle.entries.proofs.Beaters.{next-with, Passed, passed-none, passed-beater, passed-all, passed-next, reads-higher, reads-not-higher}
+use Rattle.entries.proofs.Beaters.{next-with, Passed, passed-none, passed-beater, passed-all, passed-next, reads-beats}
 use Rattle.entries.proofs.next_beater.Statement.{statement}
 use Rattle.entries.proofs.next_beater.Tie as tie
 
@@ -33,62 +35,53 @@ priority-requires-2 c κs =
     let pre = c .before .before .before .before .before .before .pre in
     entry-long (pre .0 .fabric) (c .entry-at .ensures)
 
+outranks-requires : tie.Need-outranks-requires Inv-loop μ-loop
+outranks-requires c κs = search needs
+
 returns : tie.Need-returns Inv-loop μ-loop
 returns c =
-    let pre = c .before .before .before .before .before .before .before .before .pre in
-    let priority = c .before .before .before .before .before .priority in
-    let loop = c .before .before .before .before .loop in
-    let loop-test = c .before .before .before .loop-test in
-    let entry-at = c .before .before .entry-at in
-    let p = loop .inv in
-    let l = loop-test .taken in
+    let asked = c .before in
+    let read = asked .before in
+    let entry = read .before in
+    let turn = entry .before .before in
+    let first = turn .before in
+    let pre = first .before .before .before .pre in
+    let p = turn .loop .inv in
+    let l = entry .before .loop-test .taken in
     passed-beater p l
-    (reads-higher (pre .0 .fabric) (pre .1 .1 .0) (entry-at .ensures) (p .in-chain .has-port l) (priority .ensures) (c .before .priority2 .ensures) (c .if1 .taken))
-
-returns-2 : tie.Need-returns-2 Inv-loop μ-loop
-returns-2 c =
-    let pre = c .before .before .before .before .before .before .before .before .before .pre in
-    let priority = c .before .before .before .before .before .before .priority in
-    let loop = c .before .before .before .before .before .loop in
-    let loop-test = c .before .before .before .before .loop-test in
-    let entry-at = c .before .before .before .entry-at in
-    let priority2 = c .before .before .priority2 in
-    let p = loop .inv in
-    let l = loop-test .taken in
-    passed-beater p l
-    (reads-not-higher (pre .0 .fabric) (pre .1 .1 .0) (entry-at .ensures) (p .in-chain .has-port l) (priority .ensures) (priority2 .ensures) (c .before .if1 .left) (c .if2 .taken))
+    (reads-beats (pre .0 .fabric) (pre .1 .1 .0) (entry .entry-at .ensures) (p .in-chain .has-port l) (first .priority .ensures) (read .priority2 .ensures)
+    (sym (c .if1 .taken) ∙ asked .outranks .ensures))
 
 next-in-requires : tie.Need-next-in-requires Inv-loop μ-loop
-next-in-requires c κs =
-    let loop-test = c .before .before .before .before .loop-test in
-    loop-test .taken
+next-in-requires c κs = c .before .before .before .before .loop-test .taken
 
 loop-less : tie.Need-loop-less Inv-loop μ-loop
 loop-less c =
-    let pre = c .before .before .before .before .before .before .before .before .before .before .pre in
-    let loop = c .before .before .before .before .before .before .loop in
-    let loop-test = c .before .before .before .before .before .loop-test in
-    let p = loop .inv in
-    let l = loop-test .taken in
+    let turn = c .before .before .before .before .before .before in
+    let pre = turn .before .before .before .before .pre in
+    let p = turn .loop .inv in
+    let l = c .before .before .before .before .before .loop-test .taken in
     let n = next-with (pre .0 .fabric) (pre .1 .0) _ _ _ (p .in-chain .is-entry l) (p .in-chain .has-port l) (c .next-in .ensures) in
     omega (arith, n .low)
 
 loop-again : tie.Need-loop-again Inv-loop μ-loop
 loop-again c =
-    let pre = c .before .before .before .before .before .before .before .before .before .before .pre in
-    let priority = c .before .before .before .before .before .before .before .priority in
-    let loop = c .before .before .before .before .before .before .loop in
-    let loop-test = c .before .before .before .before .before .loop-test in
-    let entry-at = c .before .before .before .before .entry-at in
-    let priority2 = c .before .before .before .priority2 in
-    let p = loop .inv in
-    let l = loop-test .taken in
+    let passed = c .before in
+    let asked = passed .before in
+    let read = asked .before in
+    let entry = read .before in
+    let turn = entry .before .before in
+    let first = turn .before in
+    let pre = first .before .before .before .pre in
+    let p = turn .loop .inv in
+    let l = entry .before .loop-test .taken in
     passed-next p (entries-few (pre .0 .fabric))
-    (reads-not-higher (pre .0 .fabric) (pre .1 .1 .0) (entry-at .ensures) (p .in-chain .has-port l) (priority .ensures) (priority2 .ensures) (c .before .before .if1 .left) (c .before .if2 .left))
+    (reads-beats (pre .0 .fabric) (pre .1 .1 .0) (entry .entry-at .ensures) (p .in-chain .has-port l) (first .priority .ensures) (read .priority2 .ensures)
+    (sym (passed .if1 .left) ∙ asked .outranks .ensures))
     (next-with (pre .0 .fabric) (pre .1 .0) _ _ _ (p .in-chain .is-entry l) (p .in-chain .has-port l) (c .next-in .ensures))
 
-returns-3 : tie.Need-returns-3 Inv-loop μ-loop
-returns-3 c = passed-all (c .before .loop .inv) (omega arith)
+returns-2 : tie.Need-returns-2 Inv-loop μ-loop
+returns-2 c = passed-all (c .before .loop .inv) (omega arith)
 
 pub next-beater-spec : {M : Type 1} → statement M
 next-beater-spec =
@@ -100,9 +93,9 @@ next-beater-spec =
     loop-holds
     entry-at-requires
     priority-requires-2
+    outranks-requires
     returns
-    returns-2
     next-in-requires
     loop-less
     loop-again
-    returns-3)
+    returns-2)
