@@ -3,15 +3,13 @@ use mathlib.Core.List.{List, [], _∷_, _++_}
 use Prim.Native.Nat.{ℕ, _*_}
 use lib.Dec.{leb}
 use lib.ListN.{length}
-use Rattle.answer.specs.Answer.{Outcome, refused, answered}
-use Rattle.questions.specs.Questions.{accepted, Question, _asks_, firstNo}
+use Rattle.answer.specs.Answer.{Outcome}
+use Rattle.questions.specs.Questions.{accepted, Question, _asks_}
 use Rattle.questions.specs.declared.Read.{Read}
-use Rattle.questions.specs.declared.Read.the-variants.{Fabric, No}
 use Rattle.forwarding.specs.Fabric as Forwarding
 use Rattle.forwarding.specs.Trace.{Event, trace, units, finds}
-use Rattle.model.specs.Model.{fabricIn}
 use Rattle.events.specs.Play.{listWords}
-use Rattle.calls.specs.Questions.{Query, targetQuestions, orRefused}
+use Rattle.calls.specs.Questions.{Query, targetQuestions, answerBy}
 
 -- the events of the back-trace that a query asks for, were there no budget
 abbrev pub traceAsked : Forwarding.Fabric → Query → List Event
@@ -28,12 +26,9 @@ listQuestions F q area =
     targetQuestions F (q .port) (q .limit) (q .asked)
     ++ (13 asks leb (units (traceAsked F q)) (q .budget) ∷ 12 asks leb (4 * length (wordsAsked F q)) (length area) ∷ [])
 
-module _ (f : List ℕ) (q : Query) where
-  abbrev pub listAnswer : Read → List ℕ → Outcome
-  listAnswer (No number place) area = refused number place area
-  listAnswer (Fabric s) area =
-      orRefused (firstNo (listQuestions (fabricIn f) q area)) area (answered (wordsAsked (fabricIn f) q) area)
+abbrev pub listAnswer : List ℕ → Query → Read → List ℕ → Outcome
+listAnswer f q r area = answerBy listQuestions wordsAsked f q r area
 
-  -- what the call list returns and leaves in the area
-  unfoldable pub listCall : List ℕ → Outcome
-  listCall area = listAnswer (accepted f) area
+-- what the call list returns and leaves in the area
+unfoldable pub listCall : List ℕ → Query → List ℕ → Outcome
+listCall f q area = listAnswer f q (accepted f) area

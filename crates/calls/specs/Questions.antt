@@ -6,9 +6,12 @@ use lib.Dec.{leb, eqb}
 use lib.ListN.{length}
 use Rattle.headers.specs.Bits.{word, every}
 use Rattle.headers.specs.Sets.{Set, tidy}
-use Rattle.answer.specs.Answer.{Outcome, refused}
+use Rattle.answer.specs.Answer.{Outcome, refused, answered}
 use Rattle.records.specs.Records.{headerWords}
-use Rattle.questions.specs.Questions.{pick, Question, _asks_}
+use Rattle.questions.specs.Questions.{pick, Question, _asks_, firstNo}
+use Rattle.questions.specs.declared.Read.{Read}
+use Rattle.questions.specs.declared.Read.the-variants as Reads
+use Rattle.model.specs.Model.{fabricIn}
 use Rattle.forwarding.specs.Fabric.{Fabric}
 
 -- "words 1 to 11 of the program's query": "target or start; hop limit; budget, unused by a run; care; value"
@@ -49,3 +52,9 @@ roomForAnswer area = leb (4 * answerWords) (length area)
 -- "Then, place 0": the number of the first no, if any, else what the call does
 abbrev pub orRefused : ℕ → List ℕ → Outcome → Outcome
 orRefused number area done = pick (eqb number 0) done (refused number 0 area)
+
+-- a call by its questions after 1 to 7 and the words it answers where they all get a yes
+abbrev pub answerBy : (Fabric → Query → List ℕ → List Question) → (Fabric → Query → List ℕ) → List ℕ → Query → Read → List ℕ → Outcome
+answerBy questions words f q (Reads.No number place) area = refused number place area
+answerBy questions words f q (Reads.Fabric s) area =
+    orRefused (firstNo (questions (fabricIn f) q area)) area (answered (words (fabricIn f) q) area)

@@ -2,15 +2,13 @@
 use mathlib.Core.Bool.{_&&_}
 use mathlib.Core.List.{List, [], _∷_}
 use Prim.Native.Nat.{ℕ}
-use Rattle.answer.specs.Answer.{Outcome, refused, answered}
-use Rattle.questions.specs.Questions.{accepted, Question, _asks_, firstNo}
+use Rattle.answer.specs.Answer.{Outcome}
+use Rattle.questions.specs.Questions.{accepted, Question, _asks_}
 use Rattle.questions.specs.declared.Read.{Read}
-use Rattle.questions.specs.declared.Read.the-variants.{Fabric, No}
 use Rattle.forwarding.specs.Fabric as Forwarding
 use Rattle.forwarding.specs.Run.{Packet, run}
-use Rattle.model.specs.Model.{fabricIn}
 use Rattle.journey.specs.Journey.{packetWords}
-use Rattle.calls.specs.Questions.{Query, limitRight, askedTidy, caresForAll, roomForAnswer, orRefused}
+use Rattle.calls.specs.Questions.{Query, limitRight, askedTidy, caresForAll, roomForAnswer, answerBy}
 
 -- the packet that a query asks for: every bit of its header is cared for, so the header is the asked value
 abbrev pub packetRun : Forwarding.Fabric → Query → Packet
@@ -25,11 +23,9 @@ runQuestions F q area =
     ∷ 12 asks roomForAnswer area
     ∷ []
 
-module _ (f : List ℕ) (q : Query) where
-  abbrev pub runAnswer : Read → List ℕ → Outcome
-  runAnswer (No number place) area = refused number place area
-  runAnswer (Fabric s) area = orRefused (firstNo (runQuestions (fabricIn f) q area)) area (answered (packetWords (packetRun (fabricIn f) q)) area)
+abbrev pub runAnswer : List ℕ → Query → Read → List ℕ → Outcome
+runAnswer f q r area = answerBy runQuestions (λ F q. packetWords (packetRun F q)) f q r area
 
-  -- what the call run returns and leaves in the area
-  unfoldable pub runCall : List ℕ → Outcome
-  runCall area = runAnswer (accepted f) area
+-- what the call run returns and leaves in the area
+unfoldable pub runCall : List ℕ → Query → List ℕ → Outcome
+runCall f q area = runAnswer f q (accepted f) area

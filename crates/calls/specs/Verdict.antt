@@ -3,15 +3,13 @@ use mathlib.Core.List.{List, [], _∷_, _++_}
 use Prim.Native.Nat.{ℕ}
 use lib.Dec.{leb}
 use lib.ListN.{replicate}
-use Rattle.answer.specs.Answer.{Outcome, refused, answered}
-use Rattle.questions.specs.Questions.{accepted, Question, _asks_, firstNo}
+use Rattle.answer.specs.Answer.{Outcome}
+use Rattle.questions.specs.Questions.{accepted, Question, _asks_}
 use Rattle.questions.specs.declared.Read.{Read}
-use Rattle.questions.specs.declared.Read.the-variants.{Fabric, No}
 use Rattle.forwarding.specs.Fabric as Forwarding
 use Rattle.forwarding.specs.Verdict.{Verdict, isolated, reached, unitsIn, verdictOn}
-use Rattle.model.specs.Model.{fabricIn}
 use Rattle.events.specs.Play.{reachedWords}
-use Rattle.calls.specs.Questions.{Query, targetQuestions, roomForAnswer, orRefused}
+use Rattle.calls.specs.Questions.{Query, targetQuestions, roomForAnswer, answerBy}
 
 -- "0 isolated or 1 reached; units made; .. Isolated has 0 from word 2 on."
 unfoldable pub verdictWords : Verdict → List ℕ
@@ -28,12 +26,9 @@ abbrev pub verdictQuestions : Forwarding.Fabric → Query → List ℕ → List 
 verdictQuestions F q area =
     targetQuestions F (q .port) (q .limit) (q .asked) ++ (12 asks roomForAnswer area ∷ 13 asks leb (unitsIn (verdictAsked F q)) (q .budget) ∷ [])
 
-module _ (f : List ℕ) (q : Query) where
-  abbrev pub verdictAnswer : Read → List ℕ → Outcome
-  verdictAnswer (No number place) area = refused number place area
-  verdictAnswer (Fabric s) area =
-      orRefused (firstNo (verdictQuestions (fabricIn f) q area)) area (answered (verdictWords (verdictAsked (fabricIn f) q)) area)
+abbrev pub verdictAnswer : List ℕ → Query → Read → List ℕ → Outcome
+verdictAnswer f q r area = answerBy verdictQuestions (λ F q. verdictWords (verdictAsked F q)) f q r area
 
-  -- what the call verdict returns and leaves in the area
-  unfoldable pub verdictCall : List ℕ → Outcome
-  verdictCall area = verdictAnswer (accepted f) area
+-- what the call verdict returns and leaves in the area
+unfoldable pub verdictCall : List ℕ → Query → List ℕ → Outcome
+verdictCall f q area = verdictAnswer f q (accepted f) area

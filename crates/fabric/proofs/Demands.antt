@@ -13,7 +13,7 @@ use Rattle.headers.specs.Sets.{WellFormed}
 use Rattle.answer.specs.Answer.{Outcome, refused}
 use Rattle.records.specs.Records.{headerWords}
 use Rattle.records.specs.declared.Shape.{Shape}
-use Rattle.questions.specs.Questions.{firstNo}
+use Rattle.questions.specs.Questions.{accepted, Question, firstNo}
 use Rattle.questions.specs.declared.Read.{Read}
 use Rattle.file.specs.Accepted.{Accepted}
 use Rattle.forwarding.specs.Fabric.{Fabric, Sound}
@@ -27,10 +27,10 @@ use Rattle.model.specs.Model.{fabricOf, fabricIn}
 use Rattle.model.proofs.Soundness.{fabric-sound}
 use Rattle.events.specs.Play.{reachedWords}
 use Rattle.journey.specs.Journey.{packetWords}
-use Rattle.calls.specs.Questions.{Query, orRefused}
-use Rattle.calls.specs.Run.{packetRun, runQuestions, runAnswer, runCall}
-use Rattle.calls.specs.Verdict.{verdictAsked, verdictWords, verdictQuestions, verdictAnswer, verdictCall}
-use Rattle.calls.specs.List.{traceAsked, wordsAsked, listQuestions, listAnswer, listCall}
+use Rattle.calls.specs.Questions.{Query, orRefused, answerBy}
+use Rattle.calls.specs.Run.{packetRun, runQuestions, runCall}
+use Rattle.calls.specs.Verdict.{verdictAsked, verdictWords, verdictQuestions, verdictCall}
+use Rattle.calls.specs.List.{traceAsked, wordsAsked, listQuestions, listCall}
 use Rattle.calls.proofs.Asking.{all-yes}
 use Rattle.fabric.specs.Demands.{Demand1, Demand2, Demand3}
 
@@ -42,29 +42,26 @@ said number area done d = rw (ne-eqb number 0 d)
 done-then : (number : ℕ) (area : List ℕ) (done : Outcome) → number ≡ 0 → orRefused number area done ≡ done
 done-then number area done e = rw e
 
+-- of a call that is made of its questions and its words
+demand-1 : (questions : Fabric → Query → List ℕ → List Question) (words : Fabric → Query → List ℕ)
+    → Demand1 (λ f q area. answerBy questions words f q (accepted f) area) questions words
+demand-1 questions words = record {
+  file-refused = λ f q area number place e. ap (λ (r : Read). answerBy questions words f q r area) e;
+  query-refused = λ f q area s ok d. ap (λ (r : Read). answerBy questions words f q r area) ok ∙ said _ area _ d;
+  all-answered = λ f q area s ok e. ap (λ (r : Read). answerBy questions words f q r area) ok ∙ done-then _ area _ e;
+}
+
 pub demand-1-verdict : Demand1 verdictCall verdictQuestions (λ F q. verdictWords (verdictAsked F q))
 unfolding verdictCall
-demand-1-verdict = record {
-  file-refused = λ f q area number place e. ap (λ (r : Read). verdictAnswer f q r area) e;
-  query-refused = λ f q area s ok d. ap (λ (r : Read). verdictAnswer f q r area) ok ∙ said _ area _ d;
-  all-answered = λ f q area s ok e. ap (λ (r : Read). verdictAnswer f q r area) ok ∙ done-then _ area _ e;
-}
+demand-1-verdict = demand-1 verdictQuestions (λ F q. verdictWords (verdictAsked F q))
 
 pub demand-1-list : Demand1 listCall listQuestions wordsAsked
 unfolding listCall
-demand-1-list = record {
-  file-refused = λ f q area number place e. ap (λ (r : Read). listAnswer f q r area) e;
-  query-refused = λ f q area s ok d. ap (λ (r : Read). listAnswer f q r area) ok ∙ said _ area _ d;
-  all-answered = λ f q area s ok e. ap (λ (r : Read). listAnswer f q r area) ok ∙ done-then _ area _ e;
-}
+demand-1-list = demand-1 listQuestions wordsAsked
 
 pub demand-1-run : Demand1 runCall runQuestions (λ F q. packetWords (packetRun F q))
 unfolding runCall
-demand-1-run = record {
-  file-refused = λ f q area number place e. ap (λ (r : Read). runAnswer f q r area) e;
-  query-refused = λ f q area s ok d. ap (λ (r : Read). runAnswer f q r area) ok ∙ said _ area _ d;
-  all-answered = λ f q area s ok e. ap (λ (r : Read). runAnswer f q r area) ok ∙ done-then _ area _ e;
-}
+demand-1-run = demand-1 runQuestions (λ F q. packetWords (packetRun F q))
 
 -- ---- demand 2
 
