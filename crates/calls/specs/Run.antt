@@ -14,6 +14,9 @@ use Rattle.calls.specs.Questions.{Query, limitRight, askedTidy, caresFor
 abbrev pub packetRun : Forwarding.Fabric → Query → Packet
 packetRun F q = run F (q .limit) (q .port) (q .asked .value)
 
+abbrev pub runWordsAsked : Forwarding.Fabric → Query → List ℕ
+runWordsAsked F q = packetWords (packetRun F q)
+
 -- the questions after 1 to 7, in turn
 abbrev pub runQuestions : Forwarding.Fabric → Query → List ℕ → List Question
 runQuestions F q area =
@@ -24,7 +27,7 @@ runQuestions F q area =
     ∷ []
 
 abbrev pub runAnswer : List ℕ → Query → Read → List ℕ → Outcome
-runAnswer f q r area = answerBy runQuestions (λ F q. packetWords (packetRun F q)) f q r area
+runAnswer f q r area = answerBy runQuestions runWordsAsked f q r area
 
 -- what the call run returns and leaves in the area
 unfoldable pub runCall : List ℕ → Query → List ℕ → Outcome

@@ -20,6 +20,9 @@ verdictWords (reached units port path h) = reachedWords units port path h
 abbrev pub verdictAsked : Forwarding.Fabric → Query → Verdict
 verdictAsked F q = verdictOn F (q .port) (q .limit) (q .asked)
 
+abbrev pub verdictWordsAsked : Forwarding.Fabric → Query → List ℕ
+verdictWordsAsked F q = verdictWords (verdictAsked F q)
+
 -- the questions after 1 to 7, in turn
 -- 13. "Did the back-trace end within the budget?"
 abbrev pub verdictQuestions : Forwarding.Fabric → Query → List ℕ → List Question
@@ -27,7 +30,7 @@ verdictQuestions F q area =
     targetQuestions F (q .port) (q .limit) (q .asked) ++ (12 asks roomForAnswer area ∷ 13 asks leb (unitsIn (verdictAsked F q)) (q .budget) ∷ [])
 
 abbrev pub verdictAnswer : List ℕ → Query → Read → List ℕ → Outcome
-verdictAnswer f q r area = answerBy verdictQuestions (λ F q. verdictWords (verdictAsked F q)) f q r area
+verdictAnswer f q r area = answerBy verdictQuestions verdictWordsAsked f q r area
 
 -- what the call verdict returns and leaves in the area
 unfoldable pub verdictCall : List ℕ → Query → List ℕ → Outcome

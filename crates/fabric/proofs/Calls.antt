@@ -1,15 +1,25 @@
--- Each call reads the file first, and answers a file that is not accepted with its number and place. Assumes nothing.
+-- Each call reads the file first, and answers a file that is not accepted with its number and place; and a call that succeeds had a yes to
+-- every question. Assumes nothing.
 use mathlib.Core.List.{List}
-use mathlib.Core.Path.{_≡_, refl}
-use Prim.Native.Nat.{ℕ}
-use Rattle.answer.specs.Answer.{refused}
-use Rattle.questions.specs.Questions.{accepted}
-use Rattle.questions.specs.declared.Read.the-variants.{No}
-use Rattle.calls.specs.Questions.{Query}
+use mathlib.Core.Path.{_≡_, refl, sym, subst}
+use Prim.Native.Nat.{ℕ, zero, suc, _+_, _*_, _%_, _≤_}
+use native.Mathlib.Omega.{arith}
+use lib.Dec.{eqb·suc-zero}
+use Rattle.answer.specs.Answer.{Outcome, refused, answered}
+use Rattle.records.specs.declared.Shape.{Shape}
+use Rattle.questions.specs.Questions.{accepted, firstNo}
+use Rattle.questions.specs.declared.Read.{Read}
+use Rattle.questions.specs.declared.Read.the-variants.{Fabric, No}
+use Rattle.questions.proofs.Numbers.{UpTo, first-no-up-to, refused-number}
+use Rattle.file.specs.Accepted.{Accepted}
+use Rattle.forwarding.specs.Fabric as Forwarding
+use Rattle.model.specs.Model.{fabricIn}
+use Rattle.calls.specs.Questions.{Query, orRefused}
 use Rattle.calls.specs.Verdict.{verdictCall}
 use Rattle.calls.specs.List.{listCall}
 use Rattle.calls.specs.Run.{runCall}
-use Rattle.fabric.specs.Calls.{answerOf, callOf}
+use Rattle.calls.proofs.Asking.{Yeses, Numbered, all-yes}
+use Rattle.fabric.specs.Calls.{questionsOf, wordsOf, answerOf, callOf}
 use Rattle.fabric.specs.declared.Call.{Call}
 use Rattle.fabric.specs.declared.Call.the-variants as Calls
 
@@ -19,7 +29,45 @@ call-answers Calls.Verdict f q area = refl
 call-answers Calls.List f q area = refl
 call-answers Calls.Run f q area = refl
 
-pub call-refused : (c : Call) (f : List ℕ) (q : Query) (area : List ℕ) (number place : ℕ) → refused number place area ≡ answerOf c f q (No number place) area
-call-refused Calls.Verdict f q area number place = refl
-call-refused Calls.List f q area number place = refl
-call-refused Calls.Run f q area number place = refl
+-- ---- success
+
+-- a question's number is 1 to 13
+questions-numbered : (c : Call) (F : Forwarding.Fabric) (q : Query) (area : List ℕ) → Numbered (questionsOf c F q area)
+questions-numbered Calls.Verdict F q area = (omega arith, (omega arith, (omega arith, (omega arith, (omega arith, tt)))))
+questions-numbered Calls.List F q area = (omega arith, (omega arith, (omega arith, (omega arith, (omega arith, tt)))))
+questions-numbered Calls.Run F q area = (omega arith, (omega arith, (omega arith, (omega arith, tt))))
+
+questions-up-to : (c : Call) (F : Forwarding.Fabric) (q : Query) (area : List ℕ) → UpTo 13 (questionsOf c F q area)
+questions-up-to Calls.Verdict F q area = (omega arith, (omega arith, (omega arith, (omega arith, (omega arith, tt)))))
+questions-up-to Calls.List F q area = (omega arith, (omega arith, (omega arith, (omega arith, (omega arith, tt)))))
+questions-up-to Calls.Run F q area = (omega arith, (omega arith, (omega arith, (omega arith, tt))))
+
+-- the file is accepted, and every question of the call gets a yes
+pub record AllYes (c : Call) (f : List ℕ) (q : Query) (area : List ℕ) : Type 0 where
+  pub shape : Shape
+  pub is-accepted : Accepted f shape
+  pub no-no : firstNo (questionsOf c (fabricIn f) q area) ≡ 0
+  pub yeses : Yeses (questionsOf c (fabricIn f) q area)
+
+pub succeeded : (c : Call) (f : List ℕ) (q : Query) (area : List ℕ) → callOf c f q area .returned % 256 ≡ 0 → AllYes c f q area
+unfolding refused
+succeeded c f q area e =
+    by-reading (accepted f) refl (subst (λ (o : Outcome). o .returned % 256 ≡ 0) (sym (call-answers c f q area)) e)
+  where
+    yeses : firstNo (questionsOf c (fabricIn f) q area) ≡ 0 → Yeses (questionsOf c (fabricIn f) q area)
+    yeses = all-yes (questionsOf c (fabricIn f) q area) (questions-numbered c (fabricIn f) q area)
+
+    low : firstNo (questionsOf c (fabricIn f) q area) ≤ 13
+    low = first-no-up-to 13 (questionsOf c (fabricIn f) q area) (questions-up-to c (fabricIn f) q area)
+
+    by-questions : (s : Shape) → Accepted f s → (n : ℕ) → firstNo (questionsOf c (fabricIn f) q area) ≡ n
+        → orRefused n area (answered (wordsOf c (fabricIn f) q) area) .returned % 256 ≡ 0 → AllYes c f q area
+    by-questions s ok zero d e =
+        record { shape = s; is-accepted = ok; no-no = d; yeses = yeses d }
+    by-questions s ok (suc n) d e =
+        let r : (0 * 256 + suc n) % 256 ≡ 0 = rw (eqb·suc-zero n) at e in
+        absurd (omega (arith, low))
+
+    by-reading : (r : Read) → accepted f ≡ r → answerOf c f q r area .returned % 256 ≡ 0 → AllYes c f q area
+    by-reading (No number place) d e = absurd (let n = refused-number f number place d in omega (arith, n))
+    by-reading (Fabric s) d e = by-questions s d (firstNo (questionsOf c (fabricIn f) q area)) refl e

@@ -1,80 +1,85 @@
 -- The three demands hold: the first of each call by its definition, the others by forwarding's theorems, as an accepted file's fabric is
--- sound. Assumes nothing.
-use mathlib.Core.Bool.{true, false≢true}
-use mathlib.Core.List.{List}
+-- sound, and the words of an answer are read back as they were written. Assumes nothing.
+use mathlib.Core.Bool.{true, true≢false, false≢true}
+use mathlib.Core.List.{List, [], _∷_, _++_}
 use mathlib.Core.Logic.{_↔_}
-use mathlib.Core.Path.{_≡_, refl, ap, _∙_}
-use Prim.Native.Nat.{ℕ}
+use mathlib.Core.Option.{some}
+use mathlib.Core.Path.{_≡_, refl, sym, ap, ap₂, _∙_, subst}
+use Prim.Native.Nat.{ℕ, _*_, _/_, _^_, _≤_, _<_}
+use native.Mathlib.Decide.{decLt}
 use native.Mathlib.Omega.{arith}
-use borrow.Author.Tests.{ne-eqb}
-use lib.ListN.{getD}
-use Rattle.headers.specs.Bits.{Words}
-use Rattle.headers.specs.Sets.{WellFormed}
-use Rattle.answer.specs.Answer.{Outcome, refused}
+use borrow.Author.Tests.{ne-eqb, leb-true}
+use lib.ListN.{length, drop}
+use Rattle.headers.specs.Sets.{Header, WellFormed, lowest}
+use Rattle.headers.proofs.Members.{lowest-member, lowest-fits}
+use Rattle.answer.specs.Answer.{Outcome, refused, answered, bytesOf}
+use Rattle.records.specs.Words.{wordsFrom}
 use Rattle.records.specs.Records.{headerWords}
 use Rattle.records.specs.declared.Shape.{Shape}
-use Rattle.questions.specs.Questions.{accepted, Question, firstNo}
+use Rattle.questions.specs.Questions.{accepted}
 use Rattle.questions.specs.declared.Read.{Read}
 use Rattle.file.specs.Accepted.{Accepted}
+use Rattle.file.proofs.Accepted.{few-entries}
 use Rattle.forwarding.specs.Fabric.{Fabric, Sound}
-use Rattle.forwarding.specs.Verdict.{Verdict, isolated, reached, isIsolated, NoLeak}
+use Rattle.forwarding.specs.Trace.{units, finds}
+use Rattle.forwarding.specs.Verdict.{Verdict, isolated, reached, unitsIn, isIsolated, NoLeak}
+use Rattle.forwarding.proofs.Lists.{All}
+use Rattle.forwarding.proofs.Ways.{CanGo, way-entries}
 use Rattle.forwarding.proofs.BackTraced.{back-traced-exactly}
-use Rattle.forwarding.proofs.Finds.{edge-set}
+use Rattle.forwarding.proofs.Finds.{edge-set, find-sound}
 use Rattle.forwarding.proofs.Arrivals as arrivals
 use Rattle.forwarding.proofs.Stops as stops
 use Rattle.forwarding.proofs.Verdicts as verdicts
 use Rattle.model.specs.Model.{fabricOf, fabricIn}
+use Rattle.model.proofs.Shapes.{fabric-is}
+use Rattle.model.proofs.Lookups.{edge-past}
 use Rattle.model.proofs.Soundness.{fabric-sound}
-use Rattle.events.specs.Play.{reachedWords}
-use Rattle.journey.specs.Journey.{packetWords}
-use Rattle.calls.specs.Questions.{Query, orRefused, answerBy}
-use Rattle.calls.specs.Run.{packetRun, runQuestions, runCall}
-use Rattle.calls.specs.Verdict.{verdictAsked, verdictWords, verdictQuestions, verdictCall}
-use Rattle.calls.specs.List.{traceAsked, wordsAsked, listQuestions, listCall}
-use Rattle.calls.proofs.Asking.{all-yes}
-use Rattle.fabric.specs.Demands.{Demand1, Demand2, Demand3}
+use Rattle.calls.specs.Questions.{Query, askedTidy, orRefused}
+use Rattle.calls.specs.Verdict.{verdictAsked, verdictWords, verdictQuestions}
+use Rattle.calls.specs.List.{traceAsked, wordsAsked, listQuestions}
+use Rattle.calls.proofs.Asking.{limit-range}
+use Rattle.fabric.specs.Calls.{answerOf, callOf}
+use Rattle.fabric.specs.Demands.{Demand1, Demand2, VerdictSays, ListSays, OfWords, Demand3}
+use Rattle.fabric.specs.Demands.{said, unitsSaid, portSaid, hopsSaid, headerSaid, entriesSaid, findsRead}
+use Rattle.fabric.specs.declared.Call.{Call}
+use Rattle.fabric.specs.declared.Call.the-variants as Calls
+use Rattle.fabric.proofs.Calls.{call-answers, succeeded}
+use Rattle.fabric.proofs.Said.{Fit, words-back}
+use Rattle.fabric.proofs.FindsSaid.{AllSayable, finds-back, fit-finds}
+use Rattle.fabric.proofs.VerdictSaid as VerdictSaid
 
 -- ---- demand 1
 
-said : (number : ℕ) (area : List ℕ) (done : Outcome) → (number ≡ 0 → ⊥) → orRefused number area done ≡ refused number 0 area
-said number area done d = rw (ne-eqb number 0 d)
+no-said : (number : ℕ) (area : List ℕ) (done : Outcome) → (number ≡ 0 → ⊥) → orRefused number area done ≡ refused number 0 area
+no-said number area done d = rw (ne-eqb number 0 d)
 
 done-then : (number : ℕ) (area : List ℕ) (done : Outcome) → number ≡ 0 → orRefused number area done ≡ done
 done-then number area done e = rw e
 
--- of a call that is made of its questions and its words
-demand-1 : (questions : Fabric → Query → List ℕ → List Question) (words : Fabric → Query → List ℕ)
-    → Demand1 (λ f q area. answerBy questions words f q (accepted f) area) questions words
-demand-1 questions words = record {
-  file-refused = λ f q area number place e. ap (λ (r : Read). answerBy questions words f q r area) e;
-  query-refused = λ f q area s ok d. ap (λ (r : Read). answerBy questions words f q r area) ok ∙ said _ area _ d;
-  all-answered = λ f q area s ok e. ap (λ (r : Read). answerBy questions words f q r area) ok ∙ done-then _ area _ e;
+pub demand-1 : (c : Call) (f : List ℕ) (q : Query) (area : List ℕ) → Demand1 c f q area
+demand-1 c f q area = record {
+  file-refused = λ number place e. read e;
+  query-refused = λ s ok d. read ok ∙ no-said _ area _ d;
+  all-answered = λ s ok e. read ok ∙ done-then _ area _ e;
 }
-
-pub demand-1-verdict : Demand1 verdictCall verdictQuestions (λ F q. verdictWords (verdictAsked F q))
-unfolding verdictCall
-demand-1-verdict = demand-1 verdictQuestions (λ F q. verdictWords (verdictAsked F q))
-
-pub demand-1-list : Demand1 listCall listQuestions wordsAsked
-unfolding listCall
-demand-1-list = demand-1 listQuestions wordsAsked
-
-pub demand-1-run : Demand1 runCall runQuestions (λ F q. packetWords (packetRun F q))
-unfolding runCall
-demand-1-run = demand-1 runQuestions (λ F q. packetWords (packetRun F q))
+  where
+    read : {r : Read} → accepted f ≡ r → callOf c f q area ≡ answerOf c f q r area
+    read e = sym (call-answers c f q area) ∙ ap (λ (r : Read). answerOf c f q r area) e
 
 -- ---- demand 2
 
 pub demand-2 : (f : List ℕ) (s : Shape) → Accepted f s → Demand2 (fabricIn f)
 demand-2 f s ok e t h l wt w = back-traced-exactly (fabricIn f) (fabric-sound f s ok) e t wt l h w
 
--- ---- demand 3
+-- ---- demand 3: what the questions give, and what the words have room for
 
--- word 0 of a verdict's words says whether it is 'isolated'
-word-0 : (v : Verdict) → getD (verdictWords v) 0 1 ≡ 0 ↔ isIsolated v ≡ true
-unfolding verdictWords reachedWords isIsolated
-word-0 (isolated u) = ((λ e. refl), λ e. refl)
-word-0 (reached u p q h) = ((λ e. absurd (omega (arith, e))), λ e. absurd (false≢true e))
+all-below : (m n : ℕ) → m ≤ n → (l : List ℕ) → All (λ e. e < m) l → All (λ e. e < n) l
+all-below m n h [] a = tt
+all-below m n h (x ∷ l) a = (let b : x < m = a .0 in omega arith, all-below m n h l (a .1))
+
+fit-entries : (l : List ℕ) → All (λ e. e < 2 ^ 32) l → Fit l
+fit-entries [] a = tt
+fit-entries (x ∷ l) a = (a .0, fit-entries l (a .1))
 
 module _ (f : List ℕ) (s : Shape) (ok : Accepted f s) (q : Query) where
   abbrev F : Fabric
@@ -83,46 +88,156 @@ module _ (f : List ℕ) (s : Shape) (ok : Accepted f s) (q : Query) where
   sound : Sound F
   sound = fabric-sound f s ok
 
-  pub demand-3 : F .isEdge (q .port) ≡ true → WellFormed headerWords (q .asked) → Demand3 F q
-  unfolding fabricIn fabricOf
-  demand-3 edge wa = record {
-    isolated-exactly = (λ e. exactly .0 (word-0 v .0 e), λ n. word-0 v .1 (exactly .1 n));
-    reached-first = λ u p path h e.
-        let r = stops.reached-events F (q .port) (traceAsked F q) 0 u p path h e in
-        record {
-          before = r .before;
-          at = r .at;
-          after = r .after;
-          events = r .events;
-          made = omega (arith, r .made);
-          none-before = r .none-foreign;
-          packet = r .packet;
-          port-is = r .port;
-          path-is = r .path;
-        };
-    reached-leak = verdicts.reached-leak F sound (q .limit) (q .port) (q .asked) edge wa;
-    listed-once = arrivals.finds-exact F sound (q .limit) (q .port) (q .asked) edge wa;
-    listed-edge = λ d m. edge-set F sound (q .limit) (q .port) (q .asked) wa d m .edge;
-    listed-set = λ d m. edge-set F sound (q .limit) (q .port) (q .asked) wa d m .well-formed;
-    listed-arrive = arrivals.find-arrives F sound (q .limit) (q .port) (q .asked) edge wa;
-    isolated-units = stops.isolated-units F (q .port) (traceAsked F q);
-  }
+  edge-port : (p : ℕ) → F .isEdge p ≡ true → p < 4096
+  edge-port p e = below (decLt p 4096)
     where
-      v : Verdict
-      v = verdictAsked F q
+      below : Dec (p < 4096) → p < 4096
+      below (yes l) = l
+      below (no l) = absurd (true≢false (sym e ∙ edge-past f s ok p (omega arith)))
 
-      exactly : isIsolated v ≡ true ↔ NoLeak F (q .limit) (q .port) (q .asked)
+  entries-few : F .entries ≤ 512
+  unfolding fabricOf
+  entries-few = rw (ap (λ (G : Fabric). G .entries) (fabric-is f s ok)) (few-entries f s ok)
+
+  -- the entries of a way that a packet can go
+  entries-low : {p : ℕ} {path : List ℕ} {h : Header} (n : ℕ) → 512 ≤ n → CanGo F (q .limit) (q .port) (q .asked) p path h
+      → All (λ e. e < n) path
+  entries-low {p} {path} {h} n l c = all-below (F .entries) n (omega (arith, entries-few)) path (way-entries F p h c)
+
+  module _ (edge : F .isEdge (q .port) ≡ true) (wa : WellFormed headerWords (q .asked)) (limit : q .limit ≤ 16)
+      (budget : q .budget < 2 ^ 32) where
+    -- ---- the verdict
+
+    module _ (area : List ℕ) where
+      abbrev told : Verdict → Outcome
+      told v = answered (verdictWords v) area
+
+      exactly : isIsolated (verdictAsked F q) ≡ true ↔ NoLeak F (q .limit) (q .port) (q .asked)
+      unfolding fabricIn fabricOf
       exactly = verdicts.isolated-exactly F sound (q .limit) (q .port) (q .asked) edge wa
 
-  -- ---- so it holds of every query that is answered: the questions gave its premises, and a query's words are of 32 bits
+      says-isolated : (u : ℕ) → verdictAsked F q ≡ isolated u → u ≤ q .budget → VerdictSays F q (told (isolated u))
+      unfolding isIsolated answered
+      says-isolated u e l =
+          let low : u < 2 ^ 32 = omega arith in
+          let zero = VerdictSaid.isolated-word-0 u area low in
+          let units-are = VerdictSaid.isolated-units-said u area low in
+          let never : said (told (isolated u)) 0 ≡ 1 → ⊥ = λ d. omega (arith, zero) in
+          record {
+            fills = omega (arith, VerdictSaid.isolated-long u area low);
+            one-or-other = λ d. absurd (d zero);
+            isolated-exactly = ((λ d. exactly .0 (ap isIsolated e)), λ safe. zero);
+            isolated-rest = λ d. VerdictSaid.isolated-rest-said u area low;
+            reached-first = λ d. absurd (never d);
+            reached-leak = λ d. absurd (never d);
+            reached-hops = λ d. absurd (never d);
+            reached-rest = λ d. absurd (never d);
+            isolated-units = λ d. units-are ∙ stops.isolated-units F (q .port) (traceAsked F q) u e;
+            within-budget = omega (arith, units-are);
+          }
 
-  module _ (area : List ℕ) (care : Words headerWords (q .asked .care)) (value : Words headerWords (q .asked .value)) where
-    pub demand-3-verdict : firstNo (verdictQuestions F q area) ≡ 0 → Demand3 F q
-    demand-3-verdict e =
-        let y = all-yes (verdictQuestions F q area) (omega arith, (omega arith, (omega arith, (omega arith, (omega arith, tt))))) e in
-        demand-3 (y .0) (record { care = care; value = value; is-tidy = y .1 .1 .0 })
+      says-reached : (u p : ℕ) (path : List ℕ) (h : Header) → verdictAsked F q ≡ reached u p path h → u ≤ q .budget
+          → VerdictSays F q (told (reached u p path h))
+      unfolding isIsolated answered fabricIn fabricOf
+      says-reached u p path h e l =
+          let way = verdicts.reached-way F sound (q .limit) (q .port) (q .asked) wa u p path h e in
+          let leak = verdicts.reached-leak F sound (q .limit) (q .port) (q .asked) edge wa u p path h e in
+          let r = stops.reached-events F (q .port) (traceAsked F q) 0 u p path h e in
+          let low : u < 2 ^ 32 = omega arith in
+          let port : p < 2 ^ 32 = omega (arith, edge-port p (way .edge-port)) in
+          let short : length path ≤ 16 = omega (arith, way .can-go .short) in
+          let entries = fit-entries path (entries-low (2 ^ 32) (omega arith) (way .can-go)) in
+          let o : Outcome = told (reached u p path h) in
+          let one : said o 0 ≡ 1 = VerdictSaid.reached-word-0 u p path h area low port short entries (way .fits) in
+          let units-are : unitsSaid o ≡ u = VerdictSaid.reached-units-said u p path h area low port short entries (way .fits) in
+          let port-is : portSaid o ≡ p = VerdictSaid.reached-port-said u p path h area low port short entries (way .fits) in
+          let hops-are : hopsSaid o ≡ length path = VerdictSaid.reached-hops-said u p path h area low port short entries (way .fits) in
+          let header-is : headerSaid o ≡ h = VerdictSaid.reached-header-said u p path h area low port short entries (way .fits) in
+          let entries-are : entriesSaid o ≡ path = VerdictSaid.reached-entries-said u p path h area low port short entries (way .fits) in
+          let never : said o 0 ≡ 0 → ⊥ = λ d. omega (arith, one) in
+          record {
+            fills = omega (arith, VerdictSaid.reached-long u p path h area low port short entries (way .fits));
+            one-or-other = λ d. one;
+            isolated-exactly = ((λ d. absurd (never d)), λ safe. absurd (false≢true (ap isIsolated (sym e) ∙ exactly .1 safe)));
+            isolated-rest = λ d. absurd (never d);
+            reached-first = λ d. record {
+              before = r .before;
+              at = r .at;
+              after = r .after;
+              events = r .events;
+              made = units-are ∙ omega (arith, r .made);
+              none-before = r .none-foreign;
+              packet = r .packet ∙ ap some (sym header-is);
+              port-is = r .port ∙ sym port-is;
+              path-is = r .path ∙ sym entries-are;
+            };
+            reached-leak = λ d. rw (port-is, entries-are, header-is) leak;
+            reached-hops = λ d. hops-are ∙ sym (rw (port-is, header-is) (leak .arriving .hops));
+            reached-rest = λ d k m.
+                VerdictSaid.reached-rest-said u p path h area low port short entries (way .fits) k (omega (arith, hops-are));
+            isolated-units = λ d. absurd (never d);
+            within-budget = omega (arith, units-are);
+          }
 
-    pub demand-3-list : firstNo (listQuestions F q area) ≡ 0 → Demand3 F q
-    demand-3-list e =
-        let y = all-yes (listQuestions F q area) (omega arith, (omega arith, (omega arith, (omega arith, (omega arith, tt))))) e in
-        demand-3 (y .0) (record { care = care; value = value; is-tidy = y .1 .1 .0 })
+      verdict-said : unitsIn (verdictAsked F q) ≤ q .budget → VerdictSays F q (told (verdictAsked F q))
+      unfolding unitsIn
+      verdict-said = by-verdict (verdictAsked F q) refl
+        where
+          by-verdict : (v : Verdict) → verdictAsked F q ≡ v → unitsIn v ≤ q .budget → VerdictSays F q (told v)
+          by-verdict (isolated u) e l = says-isolated u e l
+          by-verdict (reached u p path h) e l = says-reached u p path h e l
+
+      -- ---- the list
+
+      sayable : AllSayable (finds (traceAsked F q))
+      unfolding fabricIn fabricOf
+      sayable d m =
+          let is = edge-set F sound (q .limit) (q .port) (q .asked) wa d m in
+          let set-is = is .well-formed in
+          let c = find-sound F sound (q .limit) (q .port) (q .asked) wa d m (lowest headerWords (d .set))
+          (lowest-fits headerWords (d .set) (set-is .care)) (lowest-member headerWords (d .set) (set-is .care)) in
+          record {
+            port = edge-port (d .port) (is .edge);
+            hops = omega (arith, c .short);
+            entries = entries-low (2 ^ 28) (omega arith) c;
+            care = set-is .care;
+            value = set-is .value;
+          }
+
+      list-said : units (traceAsked F q) ≤ q .budget → ListSays F q (answered (wordsAsked F q) area)
+      unfolding answered fabricIn fabricOf
+      list-said l =
+          let ws : List ℕ = wordsAsked F q in
+          let n : length ws * 256 / 256 ≡ length ws = omega arith in
+          record {
+            listed =
+                ap₂ (λ (k m : ℕ). findsRead k (wordsFrom m (bytesOf ws ++ drop (4 * length ws) area) 0)) n n
+                ∙ ap (findsRead (length ws)) (words-back ws (drop (4 * length ws) area) (fit-finds (finds (traceAsked F q)) sayable))
+                ∙ finds-back (finds (traceAsked F q)) sayable (length ws) (omega arith);
+            listed-once = arrivals.finds-exact F sound (q .limit) (q .port) (q .asked) edge wa;
+            listed-edge = λ d m. edge-set F sound (q .limit) (q .port) (q .asked) wa d m .edge;
+            listed-set = λ d m. edge-set F sound (q .limit) (q .port) (q .asked) wa d m .well-formed;
+            listed-arrive = arrivals.find-arrives F sound (q .limit) (q .port) (q .asked) edge wa;
+            within-budget = l;
+          }
+
+-- ---- demand 3: of every call that succeeds, for then every question got a yes
+
+pub demand-3 : (f : List ℕ) (q : Query) (area : List ℕ) → OfWords q → Demand3 f q area
+demand-3 f q area w = record {
+  verdict-says = λ e.
+      let yes = succeeded Calls.Verdict f q area e in
+      let y = yes .yeses in
+      subst (VerdictSays (fabricIn f) q) (sym (demand-1 Calls.Verdict f q area .all-answered (yes .shape) (yes .is-accepted) (yes .no-no)))
+      (verdict-said f (yes .shape) (yes .is-accepted) q (y .0) (tidied (y .1 .1 .0)) (limit-range (q .limit) (y .1 .0) .1) (w .budget) area
+      (leb-true _ _ (y .1 .1 .1 .1 .0)));
+  list-says = λ e.
+      let yes = succeeded Calls.List f q area e in
+      let y = yes .yeses in
+      subst (ListSays (fabricIn f) q) (sym (demand-1 Calls.List f q area .all-answered (yes .shape) (yes .is-accepted) (yes .no-no)))
+      (list-said f (yes .shape) (yes .is-accepted) q (y .0) (tidied (y .1 .1 .0)) (limit-range (q .limit) (y .1 .0) .1) (w .budget) area
+      (leb-true _ _ (y .1 .1 .1 .0)));
+}
+  where
+    tidied : askedTidy (q .asked) ≡ true → WellFormed headerWords (q .asked)
+    tidied e = record { care = w .care; value = w .value; is-tidy = e }

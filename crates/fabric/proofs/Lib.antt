@@ -1,2 +1,5 @@
 mod Calls
+mod Said
+mod FindsSaid
+mod VerdictSaid
 pub mod Demands

@@ -1,20 +1,31 @@
--- The three calls, as one. Assumes nothing.
+-- The calls, as one: each is its questions after 1 to 7 and its words where they all get a yes. A further call is a row of each table here.
+-- Assumes nothing.
 use mathlib.Core.List.{List}
 use Prim.Native.Nat.{ℕ}
 use Rattle.answer.specs.Answer.{Outcome}
+use Rattle.questions.specs.Questions.{Question}
 use Rattle.questions.specs.declared.Read.{Read}
-use Rattle.calls.specs.Questions.{Query}
-use Rattle.calls.specs.Verdict.{verdictAnswer, verdictCall}
-use Rattle.calls.specs.List.{listAnswer, listCall}
-use Rattle.calls.specs.Run.{runAnswer, runCall}
+use Rattle.forwarding.specs.Fabric.{Fabric}
+use Rattle.calls.specs.Questions.{Query, answerBy}
+use Rattle.calls.specs.Verdict.{verdictQuestions, verdictWordsAsked, verdictCall}
+use Rattle.calls.specs.List.{listQuestions, wordsAsked, listCall}
+use Rattle.calls.specs.Run.{runQuestions, runWordsAsked, runCall}
 use Rattle.fabric.specs.declared.Call.{Call}
 use Rattle.fabric.specs.declared.Call.the-variants as Calls
 
+abbrev pub questionsOf : Call → Fabric → Query → List ℕ → List Question
+questionsOf Calls.Verdict = verdictQuestions
+questionsOf Calls.List = listQuestions
+questionsOf Calls.Run = runQuestions
+
+abbrev pub wordsOf : Call → Fabric → Query → List ℕ
+wordsOf Calls.Verdict = verdictWordsAsked
+wordsOf Calls.List = wordsAsked
+wordsOf Calls.Run = runWordsAsked
+
 -- what a call answers once the file was read
 abbrev pub answerOf : Call → List ℕ → Query → Read → List ℕ → Outcome
-answerOf Calls.Verdict f q r area = verdictAnswer f q r area
-answerOf Calls.List f q r area = listAnswer f q r area
-answerOf Calls.Run f q r area = runAnswer f q r area
+answerOf c f q r area = answerBy (questionsOf c) (wordsOf c) f q r area
 
 -- what a call returns and leaves in the area
 abbrev pub callOf : Call → List ℕ → Query → List ℕ → Outcome

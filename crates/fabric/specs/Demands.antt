@@ -1,39 +1,46 @@
--- The user's three demands. proofs/Demands.antt proves them. They speak of forwarding and of what the calls' contracts fix: that a call
--- ends, and returns and leaves what its definition here says, is its contract. Assumes nothing.
-use mathlib.Core.Bool.{true, cond}
+-- The user's three demands. proofs/Demands.antt proves them. They speak of forwarding, and of what a call returns and leaves in the area
+-- lent: that a call ends, and returns and leaves what `callOf` says, is its contract. Assumes nothing.
+use mathlib.Core.Bool.{Bool, true, _&&_, cond}
 use mathlib.Core.List.{List, [], _∷_, _++_, List·Memᴰ}
 use mathlib.Core.Logic.{_↔_}
-use mathlib.Core.Option.{some, none}
+use mathlib.Core.Option.{Option, some, none, Option·map}
 use mathlib.Core.Path.{_≡_}
-use Prim.Native.Nat.{ℕ, _<_}
-use lib.ListN.{getD}
-use Rattle.headers.specs.Bits.{Words}
+use Prim.Native.Nat.{ℕ, zero, suc, _+_, _/_, _%_, _^_, _≤_, _<_}
+use lib.Dec.{eqb, leb}
+use lib.ListN.{length, drop}
+use Rattle.headers.specs.Bits.{Words, word, words, every}
 use Rattle.headers.specs.Sets.{Header, Set, contains, WellFormed}
 use Rattle.answer.specs.Answer.{Outcome, refused, answered}
+use Rattle.records.specs.Words.{bits, wordAt, wordsFrom}
+use Rattle.records.specs.Records.{headerWords, setWords}
 use Rattle.records.specs.declared.Shape.{Shape}
-use Rattle.questions.specs.Questions.{accepted, Question, firstNo}
+use Rattle.questions.specs.Questions.{accepted, firstNo}
 use Rattle.questions.specs.declared.Read.the-variants.{No}
 use Rattle.file.specs.Accepted.{Accepted}
 use Rattle.forwarding.specs.Fabric.{Fabric, inPortOf, applied}
-use Rattle.forwarding.specs.Run.{takes, run, entriesTaken, arrives, Arrives}
+use Rattle.forwarding.specs.Run.{takes, run, entriesTaken, hopsMade, arrives, Arrives}
 use Rattle.forwarding.specs.BackTrace.{backTraced}
 use Rattle.forwarding.specs.Trace.{Find, Event, find, units, finds, pathsFor}
-use Rattle.forwarding.specs.Verdict.{isolated, reached, foreignPacket, Leak, NoLeak}
+use Rattle.forwarding.specs.Verdict.{foreignPacket, Leak, NoLeak}
 use Rattle.model.specs.Model.{fabricIn}
-use Rattle.calls.specs.Questions.{Query}
-use Rattle.calls.specs.Verdict.{verdictAsked, verdictWords}
-use Rattle.calls.specs.List.{traceAsked}
+use Rattle.calls.specs.Questions.{Query, answerWords}
+use Rattle.calls.specs.List.{traceAsked, listCall}
+use Rattle.calls.specs.Verdict.{verdictCall}
+use Rattle.fabric.specs.Calls.{questionsOf, wordsOf, callOf}
+use Rattle.fabric.specs.declared.Call.{Call}
 
 -- ---- demand 1
 
 -- "Every call ends, answers the number of the first question of document 01 that gets a no, and then changes no byte it was lent."
--- Of a call, with its questions after 1 to 7 and its words where they all get a yes.
-pub record Demand1 (call : List ℕ → Query → List ℕ → Outcome) (questions : Fabric → Query → List ℕ → List Question) (words : Fabric → Query → List ℕ) : Type 0 where
-  pub file-refused : (f : List ℕ) (q : Query) (area : List ℕ) (number place : ℕ) → accepted f ≡ No number place → call f q area ≡ refused number place area
-  pub query-refused : (f : List ℕ) (q : Query) (area : List ℕ) (s : Shape) → Accepted f s → (firstNo (questions (fabricIn f) q area) ≡ 0 → ⊥)
-      → call f q area ≡ refused (firstNo (questions (fabricIn f) q area)) 0 area
-  pub all-answered : (f : List ℕ) (q : Query) (area : List ℕ) (s : Shape) → Accepted f s → firstNo (questions (fabricIn f) q area) ≡ 0
-      → call f q area ≡ answered (words (fabricIn f) q) area
+-- Of each call: verdict, list and run, with the questions and the words that `questionsOf` and `wordsOf` name.
+pub record Demand1 (c : Call) (f : List ℕ) (q : Query) (area : List ℕ) : Type 0 where
+  -- questions 1 to 7
+  pub file-refused : (number place : ℕ) → accepted f ≡ No number place → callOf c f q area ≡ refused number place area
+  -- the call's own, with place 0
+  pub query-refused : (s : Shape) → Accepted f s → (firstNo (questionsOf c (fabricIn f) q area) ≡ 0 → ⊥)
+      → callOf c f q area ≡ refused (firstNo (questionsOf c (fabricIn f) q area)) 0 area
+  pub all-answered : (s : Shape) → Accepted f s → firstNo (questionsOf c (fabricIn f) q area) ≡ 0
+      → callOf c f q area ≡ answered (wordsOf c (fabricIn f) q) area
 
 -- ---- demand 2
 
@@ -45,7 +52,21 @@ Demand2 f =
     → ((s : Set) × List·Memᴰ s (backTraced f e t) × (contains (f .words) s h ≡ true))
     ↔ ((takes f e (inPortOf f e) h ≡ true) × (contains (f .words) t (applied f e h) ≡ true))
 
--- ---- demand 3
+-- ---- what a call says: its words, read back from the area
+
+-- "success has number 0", number being what is returned modulo 256 ..
+abbrev pub Succeeds : Outcome → Type 0
+Succeeds o = o .returned % 256 ≡ 0
+
+-- .. "and as place the words written"
+abbrev pub wordsWritten : Outcome → ℕ
+wordsWritten o = o .returned / 256
+
+-- "answers are little-endian words": word k of the area afterwards
+abbrev pub said : Outcome → ℕ → ℕ
+said o k = wordAt (o .area) k
+
+-- ---- demand 3, the verdict
 
 -- the first find with a foreign packet, and the units made before it
 pub record FirstForeign (f : Fabric) (q : Query) (u p : ℕ) (path : List ℕ) (h : Header) : Type 0 where
@@ -59,21 +80,106 @@ pub record FirstForeign (f : Fabric) (q : Query) (u p : ℕ) (path : List ℕ) (
   pub port-is : at .port ≡ p
   pub path-is : at .path ≡ path
 
-pub record Demand3 (f : Fabric) (q : Query) : Type 0 where
-  -- "'Isolated' exactly when no foreign packet arrives": word 0 of the verdict's words is 0 exactly then
-  pub isolated-exactly : getD (verdictWords (verdictAsked f q)) 0 1 ≡ 0 ↔ NoLeak f (q .limit) (q .port) (q .asked)
+-- "0 isolated or 1 reached; units made; edge port; hops; header (4); entries in travelling order (16, unused ones 0)"
+module _ (o : Outcome) where
+  abbrev pub unitsSaid : ℕ
+  unitsSaid = said o 1
+
+  abbrev pub portSaid : ℕ
+  portSaid = said o 2
+
+  abbrev pub hopsSaid : ℕ
+  hopsSaid = said o 3
+
+  abbrev pub headerSaid : Header
+  headerSaid = wordsFrom headerWords (o .area) 4
+
+  abbrev pub entriesSaid : List ℕ
+  entriesSaid = wordsFrom hopsSaid (o .area) (4 + headerWords)
+
+pub record VerdictSays (f : Fabric) (q : Query) (o : Outcome) : Type 0 where
+  -- "It fills 24 words", and word 0 is 0 or 1
+  pub fills : wordsWritten o ≡ answerWords
+  pub one-or-other : (said o 0 ≡ 0 → ⊥) → said o 0 ≡ 1
+  -- "'Isolated' exactly when no foreign packet arrives"; "Isolated has 0 from word 2 on."
+  pub isolated-exactly : said o 0 ≡ 0 ↔ NoLeak f (q .limit) (q .port) (q .asked)
+  pub isolated-rest : said o 0 ≡ 0 → (k : ℕ) → 2 ≤ k → k < answerWords → said o k ≡ 0
   -- "otherwise the packet document 01 names": that of the first find with a foreign packet ..
-  pub reached-first : (u p : ℕ) (path : List ℕ) (h : Header) → verdictAsked f q ≡ reached u p path h → FirstForeign f q u p path h
-  -- ".. with its hops and entries": it is foreign and arrives, by as many hops and by the entries named
-  pub reached-leak : (u p : ℕ) (path : List ℕ) (h : Header) → verdictAsked f q ≡ reached u p path h → Leak f (q .limit) (q .port) (q .asked) p path h
+  pub reached-first : said o 0 ≡ 1 → FirstForeign f q (unitsSaid o) (portSaid o) (entriesSaid o) (headerSaid o)
+  -- ".. with its hops and entries": it is foreign and arrives, by as many hops and by the entries said
+  pub reached-leak : said o 0 ≡ 1 → Leak f (q .limit) (q .port) (q .asked) (portSaid o) (entriesSaid o) (headerSaid o)
+  pub reached-hops : said o 0 ≡ 1 → hopsSaid o ≡ hopsMade (run f (q .limit) (portSaid o) (headerSaid o))
+  pub reached-rest : said o 0 ≡ 1 → (k : ℕ) → 4 + headerWords + hopsSaid o ≤ k → k < answerWords → said o k ≡ 0
+  -- "units are document 01's count": 'isolated' has those of the whole back-trace, 'reached' those before its find (reached-first)
+  pub isolated-units : said o 0 ≡ 0 → unitsSaid o ≡ units (traceAsked f q)
+  pub within-budget : unitsSaid o ≤ q .budget
+
+-- ---- demand 3, the list
+
+-- the find at the head of some words: "word of kind 6 (bits 27..12 hops, 11..0 edge port); for each entry in travelling order a word of
+-- kind 7 with its number below; care (4), value (4)"
+module _ (ws : List ℕ) where
+  abbrev pub hopsRead : ℕ
+  hopsRead = bits 27 12 (word ws 0)
+
+  abbrev pub setAt : ℕ
+  setAt = 1 + hopsRead
+
+  abbrev pub findSize : ℕ
+  findSize = setAt + setWords
+
+  abbrev pub findRead : Find
+  findRead = record {
+    port = bits 11 0 (word ws 0);
+    path = words hopsRead (λ k. bits 27 0 (word ws (1 + k)));
+    set = record {
+      care = words headerWords (λ w. word ws (setAt + w));
+      value = words headerWords (λ w. word ws (setAt + headerWords + w));
+    };
+  }
+
+  -- the kinds are right, and all of it is there
+  abbrev pub isFind : Bool
+  isFind = eqb (bits 31 28 (word ws 0)) 6 && every hopsRead (λ k. eqb (bits 31 28 (word ws (1 + k))) 7) && leb findSize (length ws)
+
+-- the finds that some words say, one after the other, or none where they say anything else; a find takes a word at least, so as many turns
+-- as words never run out
+unfoldable pub findsRead : ℕ → List ℕ → Option (List Find)
+findsRead zero [] = some []
+findsRead zero (w ∷ ws) = none
+findsRead (suc k) [] = some []
+findsRead (suc k) (w ∷ ws) =
+    let later = findsRead k (drop (findSize (w ∷ ws)) (w ∷ ws)) in
+    cond (isFind (w ∷ ws)) (Option·map (λ l. findRead (w ∷ ws) ∷ l) later) none
+
+abbrev pub findsSaid : Outcome → Option (List Find)
+findsSaid o = findsRead (wordsWritten o) (wordsFrom (wordsWritten o) (o .area) 0)
+
+pub record ListSays (f : Fabric) (q : Query) (o : Outcome) : Type 0 where
+  -- the words written are the finds of the back-trace, in its order
+  pub listed : findsSaid o ≡ some (finds (traceAsked f q))
   -- "the list holds each arriving pair just once and nothing else": of the finds at an edge port that hold a header, the paths are the
   -- entries of its run, once, if the pair arrives, and else there is none
   pub listed-once : (p : ℕ) (h : Header) → f .isEdge p ≡ true → Words (f .words) h
-      → pathsFor (f .words) p h (finds (traceAsked f q)) ≡ cond (arrives f (q .limit) (q .port) (q .asked) p h) (entriesTaken (run f (q .limit) p h) ∷ []) []
+      → pathsFor (f .words) p h (finds (traceAsked f q))
+      ≡ cond (arrives f (q .limit) (q .port) (q .asked) p h) (entriesTaken (run f (q .limit) p h) ∷ []) []
   -- "each with its hops and entries": a find is a set of headers at an edge port, and each of its packets arrives by its hops and entries
   pub listed-edge : (d : Find) → List·Memᴰ d (finds (traceAsked f q)) → f .isEdge (d .port) ≡ true
   pub listed-set : (d : Find) → List·Memᴰ d (finds (traceAsked f q)) → WellFormed (f .words) (d .set)
-  pub listed-arrive : (d : Find) → List·Memᴰ d (finds (traceAsked f q)) → (h : Header) → Words (f .words) h → contains (f .words) (d .set) h ≡ true
-      → Arrives f (q .limit) (q .port) (q .asked) (d .port) (d .path) h
-  -- "units are document 01's count": 'isolated' has those of the whole back-trace, 'reached' those before its find (reached-first)
-  pub isolated-units : (u : ℕ) → verdictAsked f q ≡ isolated u → u ≡ units (traceAsked f q)
+  pub listed-arrive : (d : Find) → List·Memᴰ d (finds (traceAsked f q)) → (h : Header) → Words (f .words) h
+      → contains (f .words) (d .set) h ≡ true → Arrives f (q .limit) (q .port) (q .asked) (d .port) (d .path) h
+  -- "units are document 01's count"
+  pub within-budget : units (traceAsked f q) ≤ q .budget
+
+-- ---- demand 3
+
+-- "words 1 to 11 of the program's query .. as 32-bit numbers"
+pub record OfWords (q : Query) : Type 0 where
+  pub budget : q .budget < 2 ^ 32
+  pub care : Words headerWords (q .asked .care)
+  pub value : Words headerWords (q .asked .value)
+
+-- of every file, query and area: a verdict and a list that succeed say what forwarding does
+pub record Demand3 (f : List ℕ) (q : Query) (area : List ℕ) : Type 0 where
+  pub verdict-says : Succeeds (verdictCall f q area) → VerdictSays (fabricIn f) q (verdictCall f q area)
+  pub list-says : Succeeds (listCall f q area) → ListSays (fabricIn f) q (listCall f q area)

@@ -1,6 +1,6 @@
 -- Lists: members, sums and counts, and lists put together from lists. Assumes nothing.
 use mathlib.Core.Bool.{Bool, true, false, not, _&&_, false≢true, and-true, and-assoc}
-use mathlib.Core.List.{List, [], _∷_, _++_, reverse, reverse-reverse, map, flatMap, append-assoc, map-append}
+use mathlib.Core.List.{List, [], _∷_, _++_, reverse, reverseAux, reverse-reverse, map, flatMap, append-assoc, map-append}
 use mathlib.Core.List.{List·Memᴰ, List·Memᴰ·head, List·Memᴰ·tail, List·Memᴰ·not-nil, List·Memᴰ·cases-cons, List·Memᴰ·append-cases}
 use mathlib.Core.Logic.{_⊎_, inl, inr}
 use mathlib.Core.Path.{_≡_, refl, sym, ap, ap₂, _∙_}
@@ -40,6 +40,19 @@ pub same-reverse : (l m : List ℕ) → same (reverse l) m ≡ same l (reverse m
 same-reverse l m = both-ways _ _
     (λ e. rw (← same-equal (reverse l) m e, reverse-reverse) (same-refl l))
     (λ e. rw (same-equal l (reverse m) e, reverse-reverse) (same-refl m))
+
+-- ---- every element
+
+abbrev pub All : (ℕ → Type 0) → List ℕ → Type 0
+All P [] = Unit {0}
+All P (a ∷ l) = P a × All P l
+
+all-reverse-aux : (P : ℕ → Type 0) (l r : List ℕ) → All P l → All P r → All P (reverseAux l r)
+all-reverse-aux P [] r a b = b
+all-reverse-aux P (x ∷ l) r a b = all-reverse-aux P l (x ∷ r) (a .1) (a .0, b)
+
+pub all-reverse : (P : ℕ → Type 0) (l : List ℕ) → All P (reverse l) → All P l
+all-reverse P l a = rw reverse-reverse at (all-reverse-aux P (reverse l) [] a tt)
 
 -- ---- lists put together
 

@@ -1,18 +1,19 @@
 -- A way: entries that take a packet one after the other, whichever they are. What a way is, and that a packet comes to stand at the end
 -- of a link just if it was sent out at its other end. Nothing here asks that one entry alone takes a header. Assumes nothing.
-use mathlib.Core.Bool.{Bool, true, false, not, _&&_, cond, and-false}
+use mathlib.Core.Bool.{Bool, true, false, not, _&&_, cond, false≢true, and-false}
 use mathlib.Core.List.{List, [], _∷_, reverse}
 use mathlib.Core.Path.{_≡_, refl, sym, ap, _∙_}
-use Prim.Native.Nat.{ℕ, zero, suc, _≤_}
+use Prim.Native.Nat.{ℕ, zero, suc, _≤_, _<_}
 use native.Mathlib.Omega.{arith}
-use borrow.Author.Tests.{eq-eqb, ne-eqb, eqb-true}
-use lib.Dec.{eqb, eqb·suc-zero}
+use borrow.Author.Tests.{eq-eqb, ne-eqb, eqb-true, ltb-true}
+use lib.Dec.{eqb, ltb, eqb·suc-zero}
 use lib.ListN.{length}
 use Rattle.headers.specs.Bits.{Words}
 use Rattle.headers.specs.Sets.{Header, Set, contains}
 use Rattle.headers.proofs.Booleans.{both-ways}
 use Rattle.forwarding.specs.Fabric.{Fabric, Sound, outPortOf, applied}
 use Rattle.forwarding.specs.Run.{takes}
+use Rattle.forwarding.proofs.Lists.{All, all-reverse}
 use Rattle.forwarding.proofs.OneHop.{applied-fits}
 
 -- where a packet is: at a port with a header, or it could not go that way
@@ -74,6 +75,49 @@ departs-at f e x h o t = go (takes f e x h)
     go : (b : Bool) → isAt f (cond b (at (outPortOf f e) (applied f e h)) nowhere) o t ≡ (b && (eqb (outPortOf f e) o && contains (f .words) t (applied f e h)))
     go true = refl
     go false = refl
+
+-- the entries of a way are entries of the fabric
+module _ (f : Fabric) (p : ℕ) (h : Header) where
+  abbrev IsSomewhere : Place → Type 0
+  IsSomewhere nowhere = ⊥
+  IsSomewhere (at x g) = Unit {0}
+
+  departs-entry : (e : ℕ) (s : Place) → IsSomewhere (departs f e s) → IsSomewhere s × (e < f .entries)
+  unfolding departs takes
+  departs-entry e nowhere i = absurd i
+  departs-entry e (at x g) i = (tt, ltb-true e (f .entries) (taken (ltb e (f .entries)) _ i))
+    where
+      taken : (a b : Bool) → IsSomewhere (cond (a && b) (at (outPortOf f e) (applied f e g)) nowhere) → a ≡ true
+      taken true b i = refl
+      taken false b i = absurd i
+
+  onward-from : (s : Place) → IsSomewhere (onward f s) → IsSomewhere s
+  unfolding onward
+  onward-from nowhere i = i
+  onward-from (at o g) i = tt
+
+  stands-entries : (r : List ℕ) → IsSomewhere (stands f p h r) → All (λ e. e < f .entries) r
+  unfolding stands
+  stands-entries [] i = tt
+  stands-entries (e ∷ r) i =
+      let d = departs-entry e (stands f p h r) (onward-from _ i) in
+      (d .1, stands-entries r (d .0))
+
+  sent-entries : (r : List ℕ) → IsSomewhere (sent f p h r) → All (λ e. e < f .entries) r
+  unfolding sent
+  sent-entries [] i = absurd i
+  sent-entries (e ∷ r) i =
+      let d = departs-entry e (stands f p h r) i in
+      (d .1, stands-entries r (d .0))
+
+  somewhere : (s : Place) (o : ℕ) (t : Set) → isAt f s o t ≡ true → IsSomewhere s
+  unfolding isAt
+  somewhere nowhere o t e = absurd (false≢true e)
+  somewhere (at x g) o t e = tt
+
+  pub way-entries : {limit target : ℕ} {asked : Set} {q : List ℕ} → CanGo f limit target asked p q h → All (λ e. e < f .entries) q
+  way-entries {target = target} {asked = asked} {q = q} c =
+      all-reverse _ q (sent-entries (reverse q) (somewhere (sent f p h (reverse q)) target asked (c .goes-there)))
 
 module _ (f : Fabric) (sound : Sound f) where
   departs-fits : (e : ℕ) (s : Place) → FitsAt f s → FitsAt f (departs f e s)

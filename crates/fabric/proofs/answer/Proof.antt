@@ -10,7 +10,7 @@ use Rattle.file.specs.Tables.{Indexed, Tabled}
 use Rattle.file.proofs.Tables.{empty}
 use Rattle.calls.specs.Questions.{Query, query}
 use Rattle.fabric.specs.Calls.{answerOf}
-use Rattle.fabric.proofs.Calls.{call-answers, call-refused}
+use Rattle.fabric.proofs.Calls.{call-answers}
 use Rattle.fabric.proofs.answer.Statement.{statement}
 use Rattle.fabric.proofs.answer.Tie as tie
 
@@ -58,8 +58,7 @@ returns : tie.Need-returns
 unfolding refused asked
 returns c =
     let s = c .before .before .before .before .before .before .before .before .before in
-    call-refused (s .args .call) (now (s .args .file)) (asked s) (now (s .args .area)) _ _
-    ∙ ap (λ (r : Read). answerOf (s .args .call) (now (s .args .file)) (asked s) r (now (s .args .area)))
+    ap (λ (r : Read). answerOf (s .args .call) (now (s .args .file)) (asked s) r (now (s .args .area)))
     (sym (c .before .number .given .1) ∙ c .before .before .before .accept .ensures .0)
     ∙ call-answers (s .args .call) (now (s .args .file)) (asked s) (now (s .args .area))
 
