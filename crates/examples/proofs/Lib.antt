@@ -1,1 +1,3 @@
+mod Computing
 pub mod Examples
+pub mod Richer

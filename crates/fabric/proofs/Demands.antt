@@ -35,8 +35,8 @@ use Rattle.model.proofs.Shapes.{fabric-is}
 use Rattle.model.proofs.Lookups.{edge-past}
 use Rattle.model.proofs.Soundness.{fabric-sound}
 use Rattle.calls.specs.Questions.{Query, askedTidy, orRefused}
-use Rattle.calls.specs.Verdict.{verdictAsked, verdictWords, verdictQuestions}
-use Rattle.calls.specs.List.{traceAsked, wordsAsked, listQuestions}
+use Rattle.calls.specs.Verdict.{verdictAsked, verdictWords}
+use Rattle.calls.specs.List.{traceAsked, wordsAsked}
 use Rattle.calls.proofs.Asking.{limit-range}
 use Rattle.fabric.specs.Calls.{answerOf, callOf}
 use Rattle.fabric.specs.Demands.{Demand1, Demand2, VerdictSays, ListSays, OfWords, Demand3}
