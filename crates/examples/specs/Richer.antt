@@ -57,6 +57,10 @@ some limit budget = query 5 limit budget (set (header 0 1 0 0xff) (header 0 1 0 
 abbrev pub untidy : Set
 untidy = set (header 0 0 0 0) (header 0 0 0 1)
 
+-- a set that cares for every bit but the last
+abbrev pub allButTheLast : Set
+allButTheLast = set (header 0xffffffff 0xffffffff 0xffffffff 0xfffffffe) (header 0 0 0 0)
+
 -- a packet, started at a port, with a limit
 abbrev pub packet : ℕ → ℕ → List ℕ → Query
 packet start limit h = query start limit 0 (set (header 0xffffffff 0xffffffff 0xffffffff 0xffffffff) h)
@@ -123,7 +127,7 @@ pub record Runs : Type 0 where
   pub tie : Always 96 (runCall G (packet 9 3 (header 0 0 0 0x10))) (answered (0 ∷ 0 ∷ 5 ∷ 1 ∷ (header 0 0 0 0x10 ++ way (3 ∷ []) 15)))
   -- 9 before 10, 10 before 11, 11 before 12
   pub in-turn-9 : Always 0 (runCall G (query 9 0 0 untidy)) (refused 9 0)
-  pub in-turn-10 : Always 0 (runCall G (query 6 1 0 (allWild 4))) (refused 10 0)
+  pub in-turn-10 : Always 0 (runCall G (query 6 1 0 allButTheLast)) (refused 10 0)
   pub in-turn-11 : Short 96 (runCall G (packet 6 1 (header 0 0 0 0))) (refused 11 0)
   pub in-turn-12 : Short 96 (runCall G (packet 9 1 (header 0 0 0 0))) (refused 12 0)
 

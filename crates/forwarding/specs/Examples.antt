@@ -144,6 +144,59 @@ one-hop : run twoHops 1 1 (header 0 0 22 0) ≡ travelling 4 (header 0 0 5 0) (0
 unfolding computing
 one-hop = refl
 
+-- ---- orders
+
+-- entry 2 has two beaters: "Carve by the entries that beat it, in file order", though entry 1 has the higher priority; "each part is then
+-- tried against the next beater, its whole descent before its next sibling"
+abbrev twoBeaters : Fabric
+twoBeaters = fabric
+    (entryOf 20 1 0 (set (header 0 0 3 0) (header 0 0 1 0)) (noRewrite 4)
+    ∷ entryOf 30 1 0 (set (header 0 0 6 0) (header 0 0 2 0)) (noRewrite 4)
+    ∷ entryOf 10 1 2 (allWild 4) (noRewrite 4)
+    ∷ [])
+
+beaters-in-file-order : trace twoBeaters 1 2 (allWild 4)
+    ≡ unit
+    ∷ unit
+    ∷ unit
+    ∷ find (record { port = 1; path = 2 ∷ []; set = set (header 0 0 6 0) (header 0 0 6 0) })
+    ∷ unit
+    ∷ find (record { port = 1; path = 2 ∷ []; set = set (header 0 0 3 0) (header 0 0 0 0) })
+    ∷ []
+unfolding computing
+beaters-in-file-order = refl
+
+-- "the entries with that out-port are taken up in file order", though entry 1 has the higher priority
+abbrev twoAtStop : Fabric
+twoAtStop = fabric (entryOf 10 1 2 (tpDst 22) (noRewrite 4) ∷ entryOf 30 1 2 (tpDst 80) (noRewrite 4) ∷ [])
+
+entries-in-file-order : trace twoAtStop 1 2 (allWild 4)
+    ≡ unit
+    ∷ unit
+    ∷ find (record { port = 1; path = 0 ∷ []; set = tpDst 22 })
+    ∷ unit
+    ∷ find (record { port = 1; path = 1 ∷ []; set = tpDst 80 })
+    ∷ []
+unfolding computing
+entries-in-file-order = refl
+
+-- "the lowest of the first part of the find carved by the admitted set": port 1 is in the target's group, and admits tp_dst that end in 01
+abbrev ownGroup : Fabric
+ownGroup = record {
+  words = 4;
+  entries = 1;
+  entry = λ e. entryOf 10 1 2 (allWild 4) (noRewrite 4);
+  isEdge = λ x. eqb x 1 || eqb x 2;
+  group = λ x. 7;
+  admitted = λ x. set (header 0 0 3 0) (header 0 0 1 0);
+  linkTo = λ x. 0;
+  linkFrom = λ x. 0;
+}
+
+first-part : verdictOn ownGroup 2 1 (allWild 4) ≡ reached 1 1 (0 ∷ []) (header 0 0 2 0)
+unfolding computing
+first-part = refl
+
 -- ---- the four fates
 
 -- a packet that leaves, one that entry 0 of F drops, one that no entry of F takes and one that travels on

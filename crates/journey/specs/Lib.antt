@@ -1,1 +1,2 @@
 pub mod Journey
+pub mod Examples

@@ -3,3 +3,4 @@ pub mod Soundness
 pub mod EntryRead
 pub mod Candidates
 pub mod Lookups
+pub mod Links

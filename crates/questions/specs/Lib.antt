@@ -1,3 +1,4 @@
 pub mod Questions
 pub mod Reading
 pub mod Tables
+pub mod Examples

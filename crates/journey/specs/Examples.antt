@@ -1,0 +1,28 @@
+-- The words of a packet's run, computed for each fate: no two of its numbers agree. Assumes nothing.
+use mathlib.Core.List.{[], _∷_}
+use mathlib.Core.Path.{_≡_, refl}
+use lib.ListN.{replicate}
+use Rattle.answer.specs.Answer.{sixteen}
+use Rattle.forwarding.specs.Run.{left, dropped, lost, travelling, fateOf, portOf, headerOf, takenBy}
+use Rattle.journey.specs.Journey.{packetWords}
+
+-- left at port 12 after entries 5, 4 and 2
+left-words : packetWords (left 12 (1 ∷ 6 ∷ 8 ∷ 9 ∷ []) (2 ∷ 4 ∷ 5 ∷ []))
+    ≡ 0 ∷ 0 ∷ 12 ∷ 3 ∷ 1 ∷ 6 ∷ 8 ∷ 9 ∷ 5 ∷ 4 ∷ 2 ∷ replicate 13 0
+unfolding sixteen fateOf portOf headerOf takenBy packetWords
+left-words = refl
+
+-- dropped at port 12 by entry 5
+dropped-words : packetWords (dropped 12 (1 ∷ 6 ∷ 8 ∷ 9 ∷ []) (5 ∷ [])) ≡ 1 ∷ 0 ∷ 12 ∷ 1 ∷ 1 ∷ 6 ∷ 8 ∷ 9 ∷ 5 ∷ replicate 15 0
+unfolding sixteen fateOf portOf headerOf takenBy packetWords
+dropped-words = refl
+
+-- lost at port 12, where it started
+lost-words : packetWords (lost 12 (1 ∷ 6 ∷ 8 ∷ 9 ∷ []) []) ≡ 2 ∷ 0 ∷ 12 ∷ 0 ∷ 1 ∷ 6 ∷ 8 ∷ 9 ∷ replicate 16 0
+unfolding sixteen fateOf portOf headerOf takenBy packetWords
+lost-words = refl
+
+-- still travelling, to port 12, after entries 5 and 4
+travelling-words : packetWords (travelling 12 (1 ∷ 6 ∷ 8 ∷ 9 ∷ []) (4 ∷ 5 ∷ [])) ≡ 3 ∷ 0 ∷ 12 ∷ 2 ∷ 1 ∷ 6 ∷ 8 ∷ 9 ∷ 5 ∷ 4 ∷ replicate 14 0
+unfolding sixteen fateOf portOf headerOf takenBy packetWords
+travelling-words = refl
