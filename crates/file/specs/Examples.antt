@@ -44,6 +44,10 @@ examples =
     ∷ replicate 9 0 gives No 1 0
     ∷ bytesOf (0x10020002 ∷ 0x50000000 ∷ []) gives No 2 0
     ∷ bytesOf (0x10010003 ∷ 0x50000000 ∷ []) gives No 2 0
+    ∷ bytesOf (0x20010002 ∷ 0x50000000 ∷ []) gives No 2 0
+    -- the highest bit of the version, and of the word count
+    ∷ bytesOf (0x18010002 ∷ 0x50000000 ∷ []) gives No 2 0
+    ∷ bytesOf (0x10018002 ∷ 0x50000000 ∷ []) gives No 2 0
     -- no end; a kind that is none; an edge after a link; an edge that is cut short; zero bits of a link and of an entry; an end too early
     ∷ bytesOf (0x10010002 ∷ 0x30001002 ∷ []) gives No 3 2
     ∷ bytesOf (0x10010002 ∷ 0x60000000 ∷ []) gives No 3 1
@@ -52,11 +56,21 @@ examples =
     ∷ bytesOf (0x10010003 ∷ 0x31001002 ∷ 0x50000000 ∷ []) gives No 3 1
     ∷ set fabricF (20 * 4 + 2) 1 gives No 3 19
     ∷ bytesOf (0x10010003 ∷ 0x50000000 ∷ 0x50000000 ∷ []) gives No 3 1
+    -- the other ends of the zero bits: of a link, of an entry's second word, and both of an end
+    ∷ bytesOf (0x10010003 ∷ 0x38001002 ∷ 0x50000000 ∷ []) gives No 3 1
+    ∷ set fabricF (20 * 4 + 1) 0x10 gives No 3 19
+    ∷ set fabricF (20 * 4 + 3) 0x80 gives No 3 19
+    ∷ bytesOf (0x10010002 ∷ 0x50000001 ∷ []) gives No 3 1
+    ∷ bytesOf (0x10010002 ∷ 0x58000000 ∷ []) gives No 3 1
     -- port 0; edge ports that do not rise; a link from a port to itself; an entry too
     ∷ set fabricF 4 0 gives No 4 1
     ∷ set fabricF 40 1 gives No 4 10
     ∷ bytesOf (0x10010003 ∷ 0x30007007 ∷ 0x50000000 ∷ []) gives No 4 1
     ∷ set fabricF (20 * 4) 1 gives No 4 19
+    -- two links from port 1
+    ∷ bytesOf (0x10010004 ∷ 0x30001009 ∷ 0x3000100a ∷ 0x50000000 ∷ []) gives No 4 2
+    -- a value bit outside the care of F's first edge
+    ∷ set fabricF (6 * 4) 1 gives No 5 1
     -- a value bit outside care, and a rewrite bit outside the mask, of F's second entry
     ∷ set fabricF (43 * 4) 1 gives No 5 37
     ∷ set fabricF (51 * 4) 1 gives No 5 37
@@ -64,6 +78,10 @@ examples =
     ∷ bytesOf (0x10010004 ∷ 0x30001009 ∷ 0x30002009 ∷ 0x50000000 ∷ []) gives No 6 2
     ∷ bytesOf (0x1001000c ∷ 0x20001003 ∷ eight ++ (0x30003002 ∷ 0x50000000 ∷ [])) gives No 6 10
     ∷ bytesOf (0x1001000c ∷ 0x20001003 ∷ eight ++ (0x30002003 ∷ 0x50000000 ∷ [])) gives No 6 10
+    -- two questions of one record get a no, and the first is answered: 3 before 4, 4 before 5, 4 before 6
+    ∷ bytesOf (0x10010003 ∷ 0x31000000 ∷ 0x50000000 ∷ []) gives No 3 1
+    ∷ set (set fabricF 4 0) (6 * 4) 1 gives No 4 1
+    ∷ bytesOf (0x1001000c ∷ 0x20001003 ∷ eight ++ (0x30003003 ∷ 0x50000000 ∷ [])) gives No 4 10
     -- the 65th edge
     ∷ bytesOf ((0x1001024b ∷ []) ++ several 65 (λ i. (0x20000001 + i) ∷ eight) ++ (0x50000000 ∷ [])) gives No 7 577
     ∷ []
