@@ -1,8 +1,12 @@
 //! The calls on byte slices, with typed answers.
 
+#[cfg(test)]
+mod tests;
 mod trace;
 
 pub use trace::{list, list_growing, verdict};
+
+use std::num::NonZeroU8;
 
 use crate::explain::{reason, Asked};
 use crate::header::{Header, HeaderSet};
@@ -10,9 +14,6 @@ use crate::query::Query;
 use crate::raw;
 use crate::refusal::{Question, Refusal};
 use crate::run::Run;
-use crate::words::Words;
-
-type Call = fn(&[u8], &mut [u8], &Query) -> u64;
 
 /// Whether a file is an accepted fabric: questions 1 to 7.
 ///
@@ -28,7 +29,8 @@ pub fn accept(file: &[u8]) -> Result<(), Refusal> {
         hops: 0,
         ..Query::packet(0, Header::default())
     };
-    match make(raw::run, file, &mut [], &no_hops) {
+    let ask = |area: &mut [u8]| raw::run(file, area, no_hops.numbers());
+    match make(file, &no_hops, &mut [], ask) {
         Err(refusal) if refusal.question != Question::Hops => Err(refusal),
         _ => Ok(()),
     }
@@ -56,26 +58,37 @@ pub fn run(file: &[u8], start: u32, header: Header, hops: u32) -> Result<Run, Re
         budget: 0,
         asked: HeaderSet::only(header),
     };
-    Run::read(&answer(raw::run, file, &query)?)
+    let words: [u32; raw::RUN_WORDS] =
+        answer(file, &query, |area| raw::run(file, area, query.numbers()))?;
+    Run::read(&words)
 }
 
-/// Makes a call that fills 24 words.
-fn answer(call: Call, file: &[u8], query: &Query) -> Result<[u32; raw::ANSWER_WORDS], Refusal> {
+/// Makes a call that fills so many words.
+fn answer<const WORDS: usize>(
+    file: &[u8],
+    query: &Query,
+    call: impl FnOnce(&mut [u8]) -> u64,
+) -> Result<[u32; WORDS], Refusal> {
     // What is left unwritten can't pass for an answer.
-    let mut area = [u8::MAX; raw::ANSWER_BYTES];
-    match make(call, file, &mut area, query)? {
-        raw::ANSWER_WORDS => Ok(Words(&area).first()),
+    let mut area = [[u8::MAX; 4]; WORDS];
+    match make(file, query, area.as_flattened_mut(), call)? {
+        words if words == WORDS => Ok(area.map(u32::from_le_bytes)),
         _ => Err(Refusal::unknown()),
     }
 }
 
-/// Makes a call: the words written, or the refusal.
-fn make(call: Call, file: &[u8], area: &mut [u8], query: &Query) -> Result<usize, Refusal> {
-    let code = call(file, area, query);
-    let (place, number) = (code / 256, code % 256);
-    if number == 0 {
+/// Makes a call on the area lent: the words written, or the refusal.
+fn make(
+    file: &[u8],
+    query: &Query,
+    area: &mut [u8],
+    call: impl FnOnce(&mut [u8]) -> u64,
+) -> Result<usize, Refusal> {
+    let code = call(area);
+    let (place, number) = (code / 256, NonZeroU8::new((code % 256) as u8));
+    let Some(number) = number else {
         return Ok(usize::try_from(place).unwrap_or(usize::MAX));
-    }
+    };
     let question = Question::numbered(number);
     let asked = Asked {
         file,

@@ -3,6 +3,10 @@
 
 use crate::fabric::Fabric;
 use crate::header::HeaderSet;
+use crate::limits::{
+    LEAST_FILE_BYTES, MOST_AT_IN_PORT, MOST_EDGES, MOST_ENTRIES, MOST_FILE_BYTES, MOST_HOPS,
+    MOST_LINKS, MOST_PORT,
+};
 use crate::query::Query;
 use crate::record::{record_words, Edge, Entry, Link, Record, EDGE, END, ENTRY, LINK, START};
 use crate::refusal::Question;
@@ -28,6 +32,7 @@ pub(crate) fn reason(asked: &Asked, question: Question, place: u64) -> String {
             let here = words.record(place);
             here.and_then(|here| of_record(question, &passed, &here))
         }
+        Question::Unknown(_) => Some("no document that this host knows has its number".into()),
         _ => of_query(question, asked),
     };
     why.unwrap_or_else(|| "it got a no".into())
@@ -35,9 +40,9 @@ pub(crate) fn reason(asked: &Asked, question: Question, place: u64) -> String {
 
 fn length(bytes: usize) -> String {
     let why = match bytes {
-        0..8 => "fewer than 8",
-        8..=40_200 => "not a multiple of 4",
-        _ => "more than 40200",
+        0..LEAST_FILE_BYTES => format!("fewer than {LEAST_FILE_BYTES}"),
+        LEAST_FILE_BYTES..=MOST_FILE_BYTES => "not a multiple of 4".into(),
+        _ => format!("more than {MOST_FILE_BYTES}"),
     };
     format!("the file has {bytes} bytes, {why}")
 }
@@ -71,13 +76,13 @@ fn record(words: Words, place: usize) -> String {
         return "the file stops without an end".into();
     };
     let kind = first >> 28;
-    let length = record_words(kind);
+    let length = record_words::<4>(kind);
     if length == 0 {
         return format!(
             "0x{first:08x} is of kind {kind}: edges, links, entries and the end are 2 to 5"
         );
     }
-    let before = words.records().take_while(|(here, _)| *here < place);
+    let before = words.records::<4>().take_while(|(here, _)| *here < place);
     let last = before.last().map_or(START, |(_, record)| record.kind());
     let (name, left) = (kind_name(kind), words.count() - place);
     if kind < last {
@@ -117,7 +122,7 @@ fn of_record(question: Question, passed: &Fabric, here: &Record) -> Option<Strin
 
 fn edge_ports(passed: &Fabric, edge: &Edge) -> Option<String> {
     if edge.port == 0 {
-        return Some("edge 0: ports are 1 to 4095".into());
+        return Some(format!("edge 0: ports are 1 to {MOST_PORT}"));
     }
     let last = passed.edges.last()?.port;
     Some(format!(
@@ -129,7 +134,7 @@ fn edge_ports(passed: &Fabric, edge: &Edge) -> Option<String> {
 fn link_ports(passed: &Fabric, link: &Link) -> Option<String> {
     let name = link_name(link);
     if link.from == 0 || link.to == 0 {
-        return Some(format!("{name}: ports are 1 to 4095"));
+        return Some(format!("{name}: ports are 1 to {MOST_PORT}"));
     }
     if link.from == link.to {
         return Some(format!("{name} ends where it starts"));
@@ -141,7 +146,7 @@ fn link_ports(passed: &Fabric, link: &Link) -> Option<String> {
 fn entry_ports(passed: &Fabric, entry: &Entry) -> Option<String> {
     let (number, port) = (passed.entries.len(), entry.in_port);
     Some(if port == 0 {
-        format!("entry {number} has in-port 0: in-ports are 1 to 4095")
+        format!("entry {number} has in-port 0: in-ports are 1 to {MOST_PORT}")
     } else {
         format!("entry {number} sends out at port {port}, where it takes in")
     })
@@ -175,15 +180,15 @@ fn link_ends(passed: &Fabric, link: &Link) -> Option<String> {
 
 fn limits(passed: &Fabric, here: &Record) -> String {
     match here {
-        Record::Edge(edge) => format!("edge {} is one more than 64 edges", edge.port),
-        Record::Link(link) => format!("{} is one more than 256 links", link_name(link)),
+        Record::Edge(edge) => format!("edge {} is one more than {MOST_EDGES} edges", edge.port),
+        Record::Link(link) => format!("{} is one more than {MOST_LINKS} links", link_name(link)),
         Record::Entry(entry) => {
             let number = passed.entries.len();
-            if number >= 512 {
-                return format!("entry {number} is one more than 512 entries");
+            if number >= MOST_ENTRIES {
+                return format!("entry {number} is one more than {MOST_ENTRIES} entries");
             }
             let port = entry.in_port;
-            format!("entry {number} is one more than 64 entries at in-port {port}")
+            format!("entry {number} is one more than {MOST_AT_IN_PORT} entries at in-port {port}")
         }
     }
 }
@@ -196,7 +201,7 @@ fn of_query(question: Question, asked: &Asked) -> Option<String> {
     let lent = asked.lent;
     match question {
         Question::Target => Some(format!("the target, port {port}, is no edge port")),
-        Question::Hops => Some(format!("a hop limit of {hops}: it is 1 to 16")),
+        Question::Hops => Some(format!("a hop limit of {hops}: it is 1 to {MOST_HOPS}")),
         Question::Asked => Some(
             stray(&asked.query.asked, "the asked set")
                 .unwrap_or_else(|| "a packet's header has to be given whole".into()),

@@ -16,10 +16,13 @@ use crate::words::Words;
 /// # Ok::<(), Box<dyn std::error::Error>>(())
 /// ```
 #[derive(Clone, Debug, Default, PartialEq, Eq)]
-pub struct Fabric {
-    pub edges: Vec<Edge>,
+pub struct Fabric<const N: usize = 4> {
+    /// Their ports rise.
+    pub edges: Vec<Edge<N>>,
+    /// Their from-ports rise.
     pub links: Vec<Link>,
-    pub entries: Vec<Entry>,
+    /// Numbered as they stand, from 0.
+    pub entries: Vec<Entry<N>>,
 }
 
 impl Fabric {
@@ -50,9 +53,11 @@ impl Fabric {
         let entries = self.entries.iter().copied().map(Record::Entry);
         file_of(edges.chain(links).chain(entries))
     }
+}
 
+impl<const N: usize> Fabric<N> {
     /// The edge at this port, if it is an edge port.
-    pub fn edge(&self, port: u16) -> Option<&Edge> {
+    pub fn edge(&self, port: u16) -> Option<&Edge<N>> {
         self.edges.iter().find(|edge| edge.port == port)
     }
 

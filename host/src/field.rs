@@ -1,88 +1,127 @@
-//! The seven fields of a header, and where their bits stand.
+//! The fields of a header: a name, and which of its bits.
 
-/// A field of a header, by its name in OpenFlow 1.0.
-#[derive(Clone, Copy, Debug, PartialEq, Eq)]
-pub enum Field {
-    NwSrc,
-    NwDst,
-    TpSrc,
-    TpDst,
-    DlVlan,
-    NwTos,
-    NwProto,
+/// The widest field: an Ethernet address.
+pub const MOST_FIELD_BITS: usize = 48;
+
+/// A field of a header, by its name in OpenFlow 1.0 and its bits, which are
+/// counted from word 0 bit 31 on and may go on in the next word.
+#[derive(Clone, Copy, Debug, PartialEq, Eq, Hash)]
+pub struct Field {
+    name: &'static str,
+    first: usize,
+    width: usize,
+    form: Form,
+}
+
+/// How people write a field's value.
+#[derive(Clone, Copy, Debug, PartialEq, Eq, Hash)]
+enum Form {
+    Number,
+    /// Dotted.
+    Address,
 }
 
 impl Field {
-    /// All of them, from word 0 bit 31 to word 3 bit 0: no bit is left out.
+    /// The IPv4 source address.
+    pub const NW_SRC: Field = Field::address("nw_src", 0);
+    /// The IPv4 destination address.
+    pub const NW_DST: Field = Field::address("nw_dst", 32);
+    /// The source port of TCP or UDP, or the type of ICMP.
+    pub const TP_SRC: Field = Field::number("tp_src", 64, 16);
+    /// The destination port of TCP or UDP, or the code of ICMP.
+    pub const TP_DST: Field = Field::number("tp_dst", 80, 16);
+    /// The VLAN.
+    pub const DL_VLAN: Field = Field::number("dl_vlan", 96, 16);
+    /// The IPv4 type of service.
+    pub const NW_TOS: Field = Field::number("nw_tos", 112, 8);
+    /// The IPv4 protocol.
+    pub const NW_PROTO: Field = Field::number("nw_proto", 120, 8);
+
+    /// Those of a header of four words, from word 0 bit 31 to word 3 bit 0: no
+    /// bit is left out.
     pub const ALL: [Field; 7] = [
-        Field::NwSrc,
-        Field::NwDst,
-        Field::TpSrc,
-        Field::TpDst,
-        Field::DlVlan,
-        Field::NwTos,
-        Field::NwProto,
+        Field::NW_SRC,
+        Field::NW_DST,
+        Field::TP_SRC,
+        Field::TP_DST,
+        Field::DL_VLAN,
+        Field::NW_TOS,
+        Field::NW_PROTO,
     ];
 
-    pub fn name(self) -> &'static str {
-        match self {
-            Field::NwSrc => "nw_src",
-            Field::NwDst => "nw_dst",
-            Field::TpSrc => "tp_src",
-            Field::TpDst => "tp_dst",
-            Field::DlVlan => "dl_vlan",
-            Field::NwTos => "nw_tos",
-            Field::NwProto => "nw_proto",
+    const fn number(name: &'static str, first: usize, width: usize) -> Field {
+        Field {
+            name,
+            first,
+            width,
+            form: Form::Number,
         }
     }
 
-    /// The field of this name.
+    const fn address(name: &'static str, first: usize) -> Field {
+        Field {
+            name,
+            first,
+            width: 32,
+            form: Form::Address,
+        }
+    }
+
+    /// A field of one's own: its name, its first bit and how many bits it has,
+    /// 1 to 48.
+    pub const fn new(name: &'static str, first: usize, width: usize) -> Option<Field> {
+        if width == 0 || width > MOST_FIELD_BITS || first.checked_add(width).is_none() {
+            return None;
+        }
+        Some(Field::number(name, first, width))
+    }
+
+    /// Its name.
+    pub const fn name(self) -> &'static str {
+        self.name
+    }
+
+    /// The field of four words that has this name.
     pub fn named(name: &str) -> Option<Field> {
-        Field::ALL.into_iter().find(|field| field.name() == name)
+        Field::ALL.into_iter().find(|field| field.name == name)
     }
 
     /// Whether its value is an IPv4 address.
     pub fn is_address(self) -> bool {
-        matches!(self, Field::NwSrc | Field::NwDst)
+        self.form == Form::Address
     }
 
     /// How many bits it has.
-    pub fn width(self) -> u32 {
-        match self {
-            Field::NwSrc | Field::NwDst => 32,
-            Field::TpSrc | Field::TpDst | Field::DlVlan => 16,
-            Field::NwTos | Field::NwProto => 8,
-        }
+    pub const fn width(self) -> usize {
+        self.width
     }
 
     /// Its largest value: all its bits.
-    pub fn full(self) -> u32 {
-        u32::MAX >> (32 - self.width())
+    pub const fn full(self) -> u64 {
+        u64::MAX >> (u64::BITS as usize - self.width)
     }
 
-    /// This field of four words.
-    pub fn get(self, words: &[u32; 4]) -> u32 {
-        let (word, shift) = self.place();
-        words[word] >> shift & self.full()
+    /// This field of so many words; bits of it past the last word are 0.
+    pub fn get<const N: usize>(self, words: &[u32; N]) -> u64 {
+        self.bits().fold(0, |value, bit| {
+            let word = words.get(bit / 32).copied().unwrap_or(0);
+            value << 1 | u64::from(word >> (31 - bit % 32) & 1)
+        })
     }
 
-    /// Adds these bits to this field of four words; bits past its width are
-    /// left out.
-    pub(crate) fn add(self, words: &mut [u32; 4], bits: u32) {
-        let (word, shift) = self.place();
-        words[word] |= (bits & self.full()) << shift;
-    }
-
-    /// The word that it stands in, and its lowest bit there.
-    fn place(self) -> (usize, u32) {
-        match self {
-            Field::NwSrc => (0, 0),
-            Field::NwDst => (1, 0),
-            Field::TpSrc => (2, 16),
-            Field::TpDst => (2, 0),
-            Field::DlVlan => (3, 16),
-            Field::NwTos => (3, 8),
-            Field::NwProto => (3, 0),
+    /// Sets these bits in this field of so many words. None, and nothing is
+    /// set, if one of them is past its width or the field past the words.
+    pub(crate) fn add<const N: usize>(self, words: &mut [u32; N], value: u64) -> Option<()> {
+        if value > self.full() || self.first + self.width > 32 * N {
+            return None;
         }
+        for (place, bit) in self.bits().rev().enumerate() {
+            words[bit / 32] |= ((value >> place & 1) as u32) << (31 - bit % 32);
+        }
+        Some(())
+    }
+
+    fn bits(self) -> std::ops::Range<usize> {
+        self.first..self.first + self.width
     }
 }

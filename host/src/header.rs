@@ -1,13 +1,20 @@
-//! Headers and header sets, as four words each.
+//! Headers and header sets, as so many words each: four in files of version 1.
 
 use crate::field::Field;
 
-/// 128 bits in four words.
-#[derive(Clone, Copy, Debug, Default, PartialEq, Eq, Hash)]
-pub struct Header(pub [u32; 4]);
+/// A header: 128 bits in four words, or as many more as it has.
+#[derive(Clone, Copy, Debug, PartialEq, Eq, Hash)]
+pub struct Header<const N: usize = 4>(pub [u32; N]);
 
-impl Header {
-    pub fn get(&self, field: Field) -> u32 {
+impl<const N: usize> Default for Header<N> {
+    fn default() -> Header<N> {
+        Header([0; N])
+    }
+}
+
+impl<const N: usize> Header<N> {
+    /// The field's value; bits of it past the header's words are 0.
+    pub fn get(&self, field: Field) -> u64 {
         field.get(&self.0)
     }
 }
@@ -22,58 +29,60 @@ impl Header {
 /// assert_eq!(web.to_string(), "nw_dst=10.0.0.0/24,tp_dst=80");
 /// assert!(web.contains(&Header([7, 0x0a00_0003, 80, 0])));
 /// assert!(!web.contains(&Header([7, 0x0a00_0103, 80, 0])));
-/// assert_eq!(HeaderSet::ALL_WILD.to_string(), "any");
+/// assert_eq!(HeaderSet::<4>::ALL_WILD.to_string(), "any");
 /// # Ok::<(), mwishovala::text::Wrong>(())
 /// ```
 #[derive(Clone, Copy, Debug, PartialEq, Eq, Hash)]
-pub struct HeaderSet {
-    pub care: [u32; 4],
+pub struct HeaderSet<const N: usize = 4> {
+    /// The bits that a header is held to.
+    pub care: [u32; N],
     /// Bits outside care are 0, or question 5 or 10 gets a no.
-    pub value: [u32; 4],
+    pub value: [u32; N],
 }
 
-impl HeaderSet {
+impl<const N: usize> HeaderSet<N> {
     /// Every header; as a rewrite, the one that changes nothing.
-    pub const ALL_WILD: HeaderSet = HeaderSet {
-        care: [0; 4],
-        value: [0; 4],
+    pub const ALL_WILD: HeaderSet<N> = HeaderSet {
+        care: [0; N],
+        value: [0; N],
     };
 
     /// The set with this header alone.
-    pub fn only(header: Header) -> HeaderSet {
+    pub fn only(header: Header<N>) -> HeaderSet<N> {
         HeaderSet {
-            care: [u32::MAX; 4],
+            care: [u32::MAX; N],
             value: header.0,
         }
     }
 
-    pub fn contains(&self, header: &Header) -> bool {
-        self.differing(&header.0, &[u32::MAX; 4]) == [0; 4]
+    /// Whether this header is in it.
+    pub fn contains(&self, header: &Header<N>) -> bool {
+        self.differing(&header.0, &[u32::MAX; N]) == [0; N]
     }
 
     /// Whether some header is in both.
-    pub fn meets(&self, other: &HeaderSet) -> bool {
-        self.differing(&other.value, &other.care) == [0; 4]
+    pub fn meets(&self, other: &HeaderSet<N>) -> bool {
+        self.differing(&other.value, &other.care) == [0; N]
     }
 
     /// Whether every header of this set is in the other one too.
-    pub fn is_within(&self, other: &HeaderSet) -> bool {
-        let cared_for = (0..4).all(|word| other.care[word] & !self.care[word] == 0);
+    pub fn is_within(&self, other: &HeaderSet<N>) -> bool {
+        let cared_for = (0..N).all(|word| other.care[word] & !self.care[word] == 0);
         cared_for && self.meets(other)
     }
 
     /// The lowest header: wild bits 0.
-    pub fn lowest(&self) -> Header {
+    pub fn lowest(&self) -> Header<N> {
         Header(self.value)
     }
 
     /// The value bits outside care.
-    pub(crate) fn stray(&self) -> [u32; 4] {
-        [0, 1, 2, 3].map(|word| self.value[word] & !self.care[word])
+    pub(crate) fn stray(&self) -> [u32; N] {
+        std::array::from_fn(|word| self.value[word] & !self.care[word])
     }
 
     /// The bits that both care for and that have different values.
-    fn differing(&self, value: &[u32; 4], care: &[u32; 4]) -> [u32; 4] {
-        [0, 1, 2, 3].map(|word| (self.value[word] ^ value[word]) & self.care[word] & care[word])
+    fn differing(&self, value: &[u32; N], care: &[u32; N]) -> [u32; N] {
+        std::array::from_fn(|word| (self.value[word] ^ value[word]) & self.care[word] & care[word])
     }
 }

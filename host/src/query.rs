@@ -1,10 +1,11 @@
 //! What is asked of a fabric.
 
 use crate::header::{Header, HeaderSet};
+use crate::limits::MOST_HOPS;
 
-/// Words 1 to 11 of document 01's query.
+/// A query of document 01, but for its first word, which names the call.
 #[derive(Clone, Copy, Debug, PartialEq, Eq)]
-pub struct Query {
+pub struct Query<const N: usize = 4> {
     /// A verdict's or list's target; a run's start.
     pub port: u32,
     /// The hop limit, 1 to 16.
@@ -12,19 +13,19 @@ pub struct Query {
     /// The most units that a verdict or list may make; unused by a run.
     pub budget: u32,
     /// The exit headers asked about; for a run, its header alone.
-    pub asked: HeaderSet,
+    pub asked: HeaderSet<N>,
 }
-
-/// The largest hop limit.
-pub const MOST_HOPS: u32 = 16;
 
 /// A budget that a person hardly waits for.
 pub const USUAL_BUDGET: u32 = 10_000_000;
 
-impl Query {
+/// The numbers of a query on headers of four words: words 1 to 11.
+pub const QUERY_NUMBERS: usize = 11;
+
+impl<const N: usize> Query<N> {
     /// Whether any packet, whatever its header, gets out at this port within
     /// 16 hops.
-    pub fn all_wild(target: u32) -> Query {
+    pub fn all_wild(target: u32) -> Query<N> {
         Query {
             port: target,
             hops: MOST_HOPS,
@@ -34,12 +35,21 @@ impl Query {
     }
 
     /// Where a packet with this header goes from this port within 16 hops.
-    pub fn packet(start: u32, header: Header) -> Query {
+    pub fn packet(start: u32, header: Header<N>) -> Query<N> {
         Query {
             port: start,
             hops: MOST_HOPS,
             budget: 0,
             asked: HeaderSet::only(header),
         }
+    }
+}
+
+impl Query {
+    /// As the library's calls take it.
+    pub fn numbers(&self) -> [u32; QUERY_NUMBERS] {
+        let ([c0, c1, c2, c3], [v0, v1, v2, v3]) = (self.asked.care, self.asked.value);
+        let (port, hops, budget) = (self.port, self.hops, self.budget);
+        [port, hops, budget, c0, c1, c2, c3, v0, v1, v2, v3]
     }
 }

@@ -6,70 +6,86 @@
 //! no, and every byte of the area is as it was. Nothing checks that the
 //! declarations below are those of the library: they are trusted.
 
-use crate::query::Query;
+use crate::query::QUERY_NUMBERS;
 
-/// The words that a verdict or a run fills.
-pub const ANSWER_WORDS: usize = 24;
-/// The bytes that a verdict or a run needs.
-pub const ANSWER_BYTES: usize = 4 * ANSWER_WORDS;
+/// How many words a call's answer has.
+#[derive(Clone, Copy, Debug, PartialEq, Eq)]
+#[non_exhaustive]
+pub enum Answer {
+    /// Always so many.
+    Words(usize),
+    /// As many as its finds have.
+    Finds,
+}
 
-/// `extern "C"` functions of document 01's calls, all with one list of
-/// parameters: the file, the area lent, then words 1 to 11 of the query.
-macro_rules! declare {
-    ($($name:ident)*) => {
-        extern "C" {
-            $(fn $name(
-                file: *const u8, file_len: usize, area: *mut u8, area_len: usize,
-                port: u32, limit: u32, budget: u32,
-                care0: u32, care1: u32, care2: u32, care3: u32,
-                value0: u32, value1: u32, value2: u32, value3: u32,
-            ) -> u64;)*
+/// A call of the library.
+#[derive(Clone, Copy, Debug, PartialEq, Eq)]
+#[non_exhaustive]
+pub struct Call {
+    /// The symbol that a linker looks for.
+    pub symbol: &'static str,
+    /// How many words its answer has.
+    pub answer: Answer,
+}
+
+/// The words that a verdict fills.
+pub const VERDICT_WORDS: usize = 24;
+/// The words that a run fills.
+pub const RUN_WORDS: usize = 24;
+
+/// One call, made safe: it reads slices, then comes the area lent, then its
+/// numbers; `query` are those of a query.
+macro_rules! call {
+    ($(#[$says:meta])* $name:ident $symbol:ident ($($read:ident)+; query)) => {
+        call! {
+            $(#[$says])* $name $symbol
+            ($($read)+; QUERY_NUMBERS: port limit budget c0 c1 c2 c3 v0 v1 v2 v3)
+        }
+    };
+    ($(#[$says:meta])* $name:ident $symbol:ident
+     ($($read:ident)+; $count:ident: $($number:ident)+)) => {
+        $(#[$says])*
+        pub fn $name($($read: &[u8],)+ area: &mut [u8], numbers: [u32; $count]) -> u64 {
+            extern "C" {
+                fn $symbol(
+                    $($read: *const u8, _: usize,)+
+                    area: *mut u8, _: usize,
+                    $($number: u32,)+
+                ) -> u64;
+            }
+            let [$($number),+] = numbers;
+            // SAFETY: the slices are valid for their lengths during the call
+            // and lie apart, and the call reads and writes nothing else: that
+            // is what is proved of it.
+            unsafe {
+                $symbol(
+                    $($read.as_ptr(), $read.len(),)+
+                    area.as_mut_ptr(), area.len(),
+                    $($number),+
+                )
+            }
         }
     };
 }
 
-/// Makes one of the declared calls on slices.
-macro_rules! make {
-    ($name:ident, $file:ident, $area:ident, $query:ident) => {{
-        let ([c0, c1, c2, c3], [v0, v1, v2, v3]) = ($query.asked.care, $query.asked.value);
-        // SAFETY: both slices are valid for their lengths during the call, and
-        // the call reads and writes nothing else: that is what is proved of it.
-        unsafe {
-            $name(
-                $file.as_ptr(),
-                $file.len(),
-                $area.as_mut_ptr(),
-                $area.len(),
-                $query.port,
-                $query.hops,
-                $query.budget,
-                c0,
-                c1,
-                c2,
-                c3,
-                v0,
-                v1,
-                v2,
-                v3,
-            )
-        }
-    }};
+/// A line for each call: its function, its symbol, what it takes, and its
+/// answer.
+macro_rules! calls {
+    ($($(#[$says:meta])* $name:ident $symbol:ident $takes:tt $answer:expr;)+) => {
+        $(call! { $(#[$says])* $name $symbol $takes })+
+
+        /// All of them.
+        pub const CALLS: &[Call] = &[
+            $(Call { symbol: stringify!($symbol), answer: $answer },)+
+        ];
+    };
 }
 
-declare!(fabric_run);
-declare!(fabric_verdict fabric_list);
-
-/// Is the target isolated? 24 words.
-pub fn verdict(file: &[u8], area: &mut [u8], query: &Query) -> u64 {
-    make!(fabric_verdict, file, area, query)
-}
-
-/// Every find, in order.
-pub fn list(file: &[u8], area: &mut [u8], query: &Query) -> u64 {
-    make!(fabric_list, file, area, query)
-}
-
-/// One packet's way. 24 words; the query's budget is unused.
-pub fn run(file: &[u8], area: &mut [u8], query: &Query) -> u64 {
-    make!(fabric_run, file, area, query)
+calls! {
+    /// Is the target isolated?
+    verdict fabric_verdict (file; query) Answer::Words(VERDICT_WORDS);
+    /// Every find, in order.
+    list fabric_list (file; query) Answer::Finds;
+    /// One packet's way; the query's budget is unused.
+    run fabric_run (file; query) Answer::Words(RUN_WORDS);
 }

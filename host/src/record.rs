@@ -13,41 +13,52 @@ pub(crate) const END: u32 = 5;
 
 /// An edge port, its group, and the headers that the group may send there.
 #[derive(Clone, Copy, Debug, PartialEq, Eq)]
-pub struct Edge {
+pub struct Edge<const N: usize = 4> {
+    /// Whose it is.
     pub group: u16,
+    /// The edge port.
     pub port: u16,
-    pub admitted: HeaderSet,
+    /// What its group may send there.
+    pub admitted: HeaderSet<N>,
 }
 
 /// A link, one way.
 #[derive(Clone, Copy, Debug, PartialEq, Eq)]
 pub struct Link {
+    /// The out-port that it leads on from.
     pub from: u16,
+    /// The in-port that it leads to.
     pub to: u16,
 }
 
-/// A flow entry. Out-port 0 drops. The rewrite's care is its mask.
+/// A flow entry.
 #[derive(Clone, Copy, Debug, PartialEq, Eq)]
-pub struct Entry {
+pub struct Entry<const N: usize = 4> {
+    /// Of the entries that match, the one with the highest takes the packet.
     pub priority: u16,
+    /// Where it takes packets in.
     pub in_port: u16,
+    /// Where it sends them out; 0 drops them.
     pub out_port: u16,
-    pub matching: HeaderSet,
-    pub rewrite: HeaderSet,
+    /// The headers that it takes.
+    pub matching: HeaderSet<N>,
+    /// What it writes; the care is the rewrite's mask.
+    pub rewrite: HeaderSet<N>,
 }
 
 #[derive(Clone, Copy, Debug, PartialEq, Eq)]
-pub(crate) enum Record {
-    Edge(Edge),
+pub(crate) enum Record<const N: usize = 4> {
+    Edge(Edge<N>),
     Link(Link),
-    Entry(Entry),
+    Entry(Entry<N>),
 }
 
-/// How many words a record of this kind has; 0 if there is no such record.
-pub(crate) fn record_words(kind: u32) -> usize {
+/// How many words a record of this kind has where a header has N; 0 if there is
+/// no such record.
+pub(crate) const fn record_words<const N: usize>(kind: u32) -> usize {
     match kind {
-        EDGE => 9,
-        ENTRY => 18,
+        EDGE => 1 + 2 * N,
+        ENTRY => 2 + 4 * N,
         LINK | END => 1,
         _ => 0,
     }
@@ -55,7 +66,7 @@ pub(crate) fn record_words(kind: u32) -> usize {
 
 impl<'f> Words<'f> {
     /// The edge, link or entry that starts here.
-    pub(crate) fn record(&self, place: usize) -> Option<Record> {
+    pub(crate) fn record<const N: usize>(&self, place: usize) -> Option<Record<N>> {
         let first = self.get(place)?;
         let upper = (first >> 12) as u16;
         match first >> 28 {
@@ -73,7 +84,7 @@ impl<'f> Words<'f> {
                 in_port: port(first),
                 out_port: port(self.get(place + 1)?),
                 matching: self.set(place + 2)?,
-                rewrite: self.set(place + 10)?,
+                rewrite: self.set(place + 2 + 2 * N)?,
             })),
             _ => None,
         }
@@ -81,7 +92,7 @@ impl<'f> Words<'f> {
 
     /// The records from the first on, with their places, up to the end or to
     /// what is none.
-    pub(crate) fn records(self) -> impl Iterator<Item = (usize, Record)> + 'f {
+    pub(crate) fn records<const N: usize>(self) -> impl Iterator<Item = (usize, Record<N>)> + 'f {
         let mut place = 1;
         std::iter::from_fn(move || {
             let here = place;
@@ -97,7 +108,7 @@ fn port(word: u32) -> u16 {
     (word & 0xfff) as u16
 }
 
-impl Record {
+impl<const N: usize> Record<N> {
     pub(crate) fn kind(&self) -> u32 {
         match self {
             Record::Edge(_) => EDGE,
@@ -108,7 +119,7 @@ impl Record {
 
     /// How many words it has.
     pub(crate) fn words(&self) -> usize {
-        record_words(self.kind())
+        record_words::<N>(self.kind())
     }
 
     /// Adds its words.
@@ -141,7 +152,7 @@ pub(crate) fn file_of(records: impl Iterator<Item = Record>) -> Vec<u8> {
     words.iter().flat_map(|word| word.to_le_bytes()).collect()
 }
 
-fn write_set(set: &HeaderSet, words: &mut Vec<u32>) {
+fn write_set<const N: usize>(set: &HeaderSet<N>, words: &mut Vec<u32>) {
     words.extend(set.care);
     words.extend(set.value);
 }

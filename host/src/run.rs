@@ -1,12 +1,12 @@
 //! A packet run's answer.
 
 use crate::header::Header;
-use crate::path::Path;
-use crate::raw::ANSWER_WORDS;
+use crate::path::{Path, Way};
 use crate::refusal::Refusal;
 
 /// How a packet run ends.
 #[derive(Clone, Copy, Debug, PartialEq, Eq)]
+#[non_exhaustive]
 pub enum Fate {
     /// It left the fabric at the run's port.
     Left,
@@ -20,30 +20,43 @@ pub enum Fate {
 
 /// One packet's way.
 #[derive(Clone, Copy, Debug, PartialEq, Eq)]
-pub struct Run {
+#[non_exhaustive]
+pub struct Run<const N: usize = 4> {
+    /// How it ended.
     pub fate: Fate,
+    /// Where it ended.
     pub port: u16,
+    /// How many hops it made.
     pub hops: u32,
     /// After the last rewrite made.
-    pub header: Header,
+    pub header: Header<N>,
+    /// The entries that took it.
     pub entries: Path,
 }
 
-impl Run {
-    pub(crate) fn read(words: &[u32; ANSWER_WORDS]) -> Result<Run, Refusal> {
-        let hops = words[3];
-        Ok(Run {
-            fate: match words[0] {
-                0 => Fate::Left,
-                1 => Fate::Dropped,
-                2 => Fate::Lost,
-                3 => Fate::Travelling,
-                _ => return Err(Refusal::unknown()),
-            },
-            port: words[2] as u16,
-            hops,
-            header: Header([words[4], words[5], words[6], words[7]]),
-            entries: Path::new(words[8..].iter().copied().take(hops as usize)),
+impl<const N: usize> Run<N> {
+    pub(crate) fn read(words: &[u32]) -> Result<Run<N>, Refusal> {
+        Run::of(words).ok_or_else(Refusal::unknown)
+    }
+
+    fn of(words: &[u32]) -> Option<Run<N>> {
+        let (&[fate, 0], way) = words.split_first_chunk()? else {
+            return None;
+        };
+        let fate = match fate {
+            0 => Fate::Left,
+            1 => Fate::Dropped,
+            2 => Fate::Lost,
+            3 => Fate::Travelling,
+            _ => return None,
+        };
+        let way = Way::read(way)?;
+        Some(Run {
+            fate,
+            port: way.port,
+            hops: way.hops,
+            header: way.header,
+            entries: way.entries,
         })
     }
 }

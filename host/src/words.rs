@@ -17,19 +17,18 @@ impl Words<'_> {
         bytes.try_into().ok().map(u32::from_le_bytes)
     }
 
-    fn four(&self, place: usize) -> Option<[u32; 4]> {
-        let word = |step| self.get(place + step);
-        Some([word(0)?, word(1)?, word(2)?, word(3)?])
+    /// So many of them, from this place on.
+    fn array<const N: usize>(&self, place: usize) -> Option<[u32; N]> {
+        let mut words = [0; N];
+        for (step, word) in words.iter_mut().enumerate() {
+            *word = self.get(place.checked_add(step)?)?;
+        }
+        Some(words)
     }
 
-    /// Care and value, eight words.
-    pub(crate) fn set(&self, place: usize) -> Option<HeaderSet> {
-        let (care, value) = (self.four(place)?, self.four(place + 4)?);
+    /// Care, then value.
+    pub(crate) fn set<const N: usize>(&self, place: usize) -> Option<HeaderSet<N>> {
+        let (care, value) = (self.array(place)?, self.array(place.checked_add(N)?)?);
         Some(HeaderSet { care, value })
-    }
-
-    /// The first of them; what is missing is 0.
-    pub(crate) fn first<const N: usize>(&self) -> [u32; N] {
-        std::array::from_fn(|place| self.get(place).unwrap_or(0))
     }
 }

@@ -78,6 +78,7 @@ fn verdict_list_and_run_agree() {
                 assert_eq!((find.hops, find.entries), (hops, entries));
                 reached.set(reached.get() + 1);
             }
+            other => panic!("{other:?} is no verdict of document 01"),
         }
         listed.set(listed.get() + finds.len());
     });

@@ -36,7 +36,7 @@ fn check_accept(file: &[u8]) {
     match (Fabric::read(file), read(file)) {
         (Ok(fabric), Ok(_)) => assert_eq!(fabric.to_bytes(), file),
         (Err(refusal), Err(expected)) => {
-            assert_eq!(refusal.question.number(), usize::from(expected.number));
+            assert_eq!(refusal.question.number(), expected.number);
             assert_eq!(refusal.place, expected.place as u64);
             assert_ne!(refusal.reason, NO_REASON);
         }
@@ -88,7 +88,10 @@ fn runs_are_read_right() {
                 assert_eq!(entries, words[8..8 + run.hops as usize]);
             }
             Err(refusal) => {
-                assert_eq!(refusal.place * 256 + refusal.question.number() as u64, code);
+                assert_eq!(
+                    refusal.place * 256 + u64::from(refusal.question.number()),
+                    code
+                );
                 assert_ne!(refusal.reason, NO_REASON);
             }
         }
@@ -130,25 +133,30 @@ mod trace {
     }
 
     fn check_refusal(refusal: &Refusal, code: u64) {
-        assert_eq!(refusal.place * 256 + refusal.question.number() as u64, code);
+        assert_eq!(
+            refusal.place * 256 + u64::from(refusal.question.number()),
+            code
+        );
         assert_ne!(refusal.reason, NO_REASON);
     }
 
     fn words_of(verdict: &Verdict) -> Vec<u32> {
         let mut words = match verdict {
-            Verdict::Isolated { units } => vec![0, *units],
+            Verdict::Isolated { units, .. } => vec![0, *units],
             Verdict::Reached {
                 units,
                 port,
                 hops,
                 header,
                 entries,
+                ..
             } => {
                 let mut words = vec![1, *units, u32::from(*port), *hops];
                 words.extend(header.0);
                 words.extend(entries.iter().map(|&entry| u32::from(entry)));
                 words
             }
+            other => panic!("{other:?} is no verdict of document 01"),
         };
         words.resize(24, 0);
         words

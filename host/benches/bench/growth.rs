@@ -46,10 +46,10 @@ fn panel(name: &'static str, sizes: &[u16], make: fn(u16) -> Fabric) -> Panel {
     for &size in sizes {
         let file = write(&make(size));
         let query = wild_query(u32::from(TARGET), 16, u32::MAX);
-        let asked = to_host(&query);
+        let asked = to_host(&query).numbers();
         let (mut lent, mut lent_too) = ([0; 96], [0; 96]);
         let times = race(
-            || assert_eq!(raw::verdict(black_box(&file), &mut lent, &asked) % 256, 0),
+            || assert_eq!(raw::verdict(black_box(&file), &mut lent, asked) % 256, 0),
             || {
                 assert_eq!(
                     reference::verdict(black_box(&file), &mut lent_too, &query) % 256,

@@ -37,9 +37,9 @@ fn row(name: &str, file: &[u8], code: u64) {
         care: [0; 4],
         value: [0; 4],
     };
-    let asked = to_host(&query);
+    let asked = to_host(&query).numbers();
     let times = race(
-        || assert_eq!(raw::run(black_box(file), &mut [], &asked), code),
+        || assert_eq!(raw::run(black_box(file), &mut [], asked), code),
         || assert_eq!(reference::run(black_box(file), &mut [], &query), code),
     );
     let (product, reference) = (in_words(times.product), in_words(times.reference));

@@ -32,10 +32,10 @@ fn row(name: &str, fabric: &Fabric, start: u32, header: [u32; 4]) {
         care: [u32::MAX; 4],
         value: header,
     };
-    let asked = to_host(&query);
+    let asked = to_host(&query).numbers();
     let (mut lent, mut lent_too) = ([0; 96], [0; 96]);
     let times = race(
-        || assert_eq!(raw::run(black_box(&file), &mut lent, &asked), 24 * 256),
+        || assert_eq!(raw::run(black_box(&file), &mut lent, asked), 24 * 256),
         || {
             assert_eq!(
                 reference::run(black_box(&file), &mut lent_too, &query),

@@ -7,7 +7,7 @@ use std::sync::atomic::{AtomicUsize, Ordering};
 use std::thread;
 
 use crate::to_host;
-use mwishovala::raw;
+use mwishovala::{raw, QUERY_NUMBERS};
 use reference::file::write;
 use reference::random::deep_ring;
 use reference::Query;
@@ -39,13 +39,13 @@ pub fn table() {
     println!("The library takes no other memory.\n");
 }
 
-type Product = fn(&[u8], &mut [u8], &mwishovala::Query) -> u64;
+type Product = fn(&[u8], &mut [u8], [u32; QUERY_NUMBERS]) -> u64;
 type Reference = fn(&[u8], &mut [u8], &Query) -> u64;
 
 fn row(name: &str, query: &Query, file: &[u8], product: Product, reference: Reference) {
-    let asked = to_host(query);
+    let asked = to_host(query).numbers();
     let mut area = vec![0; 1 << 20];
-    let product = stack_of(|| product(file, &mut area, &asked));
+    let product = stack_of(|| product(file, &mut area, asked));
     let mut area = vec![0; 1 << 20];
     let reference = stack_of(|| reference(file, &mut area, query));
     let (product, reference) = (in_words(product), in_words(reference));

@@ -24,13 +24,13 @@ pub fn table() {
 fn rows(benchmark: &Benchmark) {
     let file = write(&benchmark.fabric);
     let name = benchmark.name;
-    let (query, asked) = (&benchmark.query, to_host(&benchmark.query));
-    let mut answer = [0; raw::ANSWER_BYTES];
-    assert_eq!(raw::verdict(&file, &mut answer, &asked), 24 * 256);
+    let (query, asked) = (&benchmark.query, to_host(&benchmark.query).numbers());
+    let mut answer = [0; 4 * raw::VERDICT_WORDS];
+    assert_eq!(raw::verdict(&file, &mut answer, asked), 24 * 256);
     let units = to_le_words(&answer)[1];
     let (mut lent, mut lent_too) = ([0; 96], [0; 96]);
     let verdict = race(
-        || assert_eq!(raw::verdict(black_box(&file), &mut lent, &asked) % 256, 0),
+        || assert_eq!(raw::verdict(black_box(&file), &mut lent, asked) % 256, 0),
         || {
             assert_eq!(
                 reference::verdict(black_box(&file), &mut lent_too, query) % 256,
@@ -41,7 +41,7 @@ fn rows(benchmark: &Benchmark) {
     row(name, "verdict", units, verdict);
     let (mut lent, mut lent_too) = (vec![0; 48 << 20], vec![0; 48 << 20]);
     let list = race(
-        || assert_eq!(raw::list(black_box(&file), &mut lent, &asked) % 256, 0),
+        || assert_eq!(raw::list(black_box(&file), &mut lent, asked) % 256, 0),
         || {
             assert_eq!(
                 reference::list(black_box(&file), &mut lent_too, query) % 256,

@@ -23,11 +23,14 @@ use crate::verdict::Verdict;
 /// assert_eq!(port, 1);
 /// assert_eq!(header.0, [0, 0x0a00_0002, 2, 0]);
 /// assert_eq!(entries[..], [1]);
-/// assert_eq!(verdict(&file, &Query::all_wild(1))?, Verdict::Isolated { units: 0 });
+/// assert!(matches!(verdict(&file, &Query::all_wild(1))?, Verdict::Isolated { units: 0, .. }));
 /// # Ok::<(), Box<dyn std::error::Error>>(())
 /// ```
 pub fn verdict(file: &[u8], query: &Query) -> Result<Verdict, Refusal> {
-    Verdict::read(&answer(raw::verdict, file, query)?)
+    let words: [u32; raw::VERDICT_WORDS] = answer(file, query, |area| {
+        raw::verdict(file, area, query.numbers())
+    })?;
+    Verdict::read(&words)
 }
 
 /// Every header that arrives at the target, as finds in the area lent.
@@ -47,7 +50,7 @@ pub fn verdict(file: &[u8], query: &Query) -> Result<Verdict, Refusal> {
 /// # Ok::<(), Box<dyn std::error::Error>>(())
 /// ```
 pub fn list<'a>(file: &[u8], area: &'a mut [u8], query: &Query) -> Result<Finds<'a>, Refusal> {
-    let words = make(raw::list, file, area, query)?;
+    let words = words_listed(file, area, query)?;
     written(area, words)
 }
 
@@ -62,7 +65,7 @@ pub fn list_growing<'a>(
     let mut room = area.len().max(SMALL_AREA);
     loop {
         area.resize(room.min(most), 0);
-        match make(raw::list, file, area, query) {
+        match words_listed(file, area, query) {
             Err(refusal) if refusal.question == Question::Area && room < most => {
                 room = room.saturating_mul(4);
             }
@@ -70,6 +73,12 @@ pub fn list_growing<'a>(
             Ok(words) => return written(area, words),
         }
     }
+}
+
+fn words_listed(file: &[u8], area: &mut [u8], query: &Query) -> Result<usize, Refusal> {
+    make(file, query, area, |area| {
+        raw::list(file, area, query.numbers())
+    })
 }
 
 /// Where `list_growing` begins.

@@ -7,7 +7,8 @@ use super::files::Source;
 use super::help::HELP;
 use super::Failure;
 use crate::header::{Header, HeaderSet};
-use crate::query::{Query, MOST_HOPS, USUAL_BUDGET};
+use crate::limits::MOST_HOPS;
+use crate::query::{Query, USUAL_BUDGET};
 use crate::text::parse_header;
 
 pub(super) enum Order {

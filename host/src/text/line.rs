@@ -4,6 +4,7 @@ use super::sets::parse_set;
 use super::token::Token;
 use super::Wrong;
 use crate::header::HeaderSet;
+use crate::limits::MOST_PORT;
 use crate::record::{Edge, Entry, Link, Record};
 
 /// A record, and where it stands.
@@ -46,7 +47,7 @@ type Parse = fn(&Token, &mut Sentence) -> Result<Record, Wrong>;
 fn edge(port: &Token, words: &mut Sentence) -> Result<Record, Wrong> {
     let port = port_of(port)?;
     words.keyword("group")?;
-    let group = words.number("group", 0xffff)?;
+    let group = words.number("group", u16::MAX)?;
     words.keyword("admits")?;
     let admitted = words.set()?;
     Ok(Record::Edge(Edge {
@@ -72,7 +73,7 @@ fn entry(in_port: &Token, words: &mut Sentence) -> Result<Record, Wrong> {
         _ => port_of(&out)?,
     };
     words.keyword("priority")?;
-    let priority = words.number("priority", 0xffff)?;
+    let priority = words.number("priority", u16::MAX)?;
     words.keyword("match")?;
     let matching = words.set()?;
     let rewrite = match words.next() {
@@ -90,7 +91,7 @@ fn entry(in_port: &Token, words: &mut Sentence) -> Result<Record, Wrong> {
 }
 
 fn port_of(token: &Token) -> Result<u16, Wrong> {
-    token.number("port", 4095).map(|port| port as u16)
+    token.number("port", MOST_PORT)
 }
 
 /// The words of a line, one after the other.
@@ -126,9 +127,7 @@ impl<'t> Sentence<'t> {
     }
 
     fn number(&mut self, what: &str, most: u16) -> Result<u16, Wrong> {
-        let word = self.want(&format!("a {what}"))?;
-        let number = word.number(what, u32::from(most))?;
-        Ok(number as u16)
+        self.want(&format!("a {what}"))?.number(what, most)
     }
 
     fn set(&mut self) -> Result<HeaderSet, Wrong> {

@@ -4,6 +4,7 @@ use super::line::Line;
 use super::token::Token;
 use super::Wrong;
 use crate::calls::accept;
+use crate::limits::{MOST_EDGES, MOST_ENTRIES, MOST_LINKS};
 use crate::record::{file_of, Record, EDGE, ENTRY, LINK};
 use crate::refusal::{Question, Refusal};
 
@@ -73,7 +74,11 @@ fn first_past_its_limit<'l, 't>(lines: &'l [Line<'t>]) -> Option<&'l Line<'t>> {
         let mut of_kind = lines.iter().filter(move |line| line.record.kind() == kind);
         of_kind.nth(limit)
     };
-    let limits = [(EDGE, 64), (LINK, 256), (ENTRY, 512)];
+    let limits = [
+        (EDGE, MOST_EDGES),
+        (LINK, MOST_LINKS),
+        (ENTRY, MOST_ENTRIES),
+    ];
     limits
         .into_iter()
         .find_map(|(kind, limit)| nth_of_kind(kind, limit))

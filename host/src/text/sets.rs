@@ -50,8 +50,10 @@ pub(super) fn parse_set(token: Token) -> Result<HeaderSet, Wrong> {
         }
         named.push(field);
         let (bits, mask) = value_and_mask(field, value)?;
-        field.add(&mut set.care, mask);
-        field.add(&mut set.value, bits);
+        let added = field
+            .add(&mut set.care, mask)
+            .and(field.add(&mut set.value, bits));
+        added.ok_or_else(|| part.wrong(format!("{} doesn't fit", field.name())))?;
     }
     Ok(set)
 }
@@ -64,7 +66,7 @@ fn field_named(name: &Token) -> Result<Field, Wrong> {
 }
 
 /// `VALUE`, or `VALUE/MASK`; for an address also `VALUE/LENGTH`.
-fn value_and_mask(field: Field, token: Token) -> Result<(u32, u32), Wrong> {
+fn value_and_mask(field: Field, token: Token) -> Result<(u64, u64), Wrong> {
     let Some((value, mask)) = token.split_once('/') else {
         return Ok((parse_value(field, &token)?, field.full()));
     };
@@ -82,25 +84,27 @@ fn value_and_mask(field: Field, token: Token) -> Result<(u32, u32), Wrong> {
     Ok((bits, mask))
 }
 
-fn parse_value(field: Field, token: &Token) -> Result<u32, Wrong> {
+fn parse_value(field: Field, token: &Token) -> Result<u64, Wrong> {
     if field.is_address() && !token.text.starts_with("0x") {
         return parse_address(token);
     }
     match (field, token.text) {
-        (Field::NwProto, "icmp") => Ok(1),
-        (Field::NwProto, "tcp") => Ok(6),
-        (Field::NwProto, "udp") => Ok(17),
+        (Field::NW_PROTO, "icmp") => Ok(1),
+        (Field::NW_PROTO, "tcp") => Ok(6),
+        (Field::NW_PROTO, "udp") => Ok(17),
         _ => token.number(field.name(), field.full()),
     }
 }
 
-fn parse_address(token: &Token) -> Result<u32, Wrong> {
+fn parse_address(token: &Token) -> Result<u64, Wrong> {
     let address: Result<Ipv4Addr, _> = token.text.parse();
     let wrong = |_| token.wrong(format!("'{}' is no address", token.text));
-    address.map(u32::from).map_err(wrong)
+    address
+        .map(|address| u32::from(address).into())
+        .map_err(wrong)
 }
 
-fn parse_mask(field: Field, token: &Token) -> Result<u32, Wrong> {
+fn parse_mask(field: Field, token: &Token) -> Result<u64, Wrong> {
     if token.text.starts_with("0x") {
         return token.number("mask", field.full());
     }
@@ -110,59 +114,72 @@ fn parse_mask(field: Field, token: &Token) -> Result<u32, Wrong> {
     if token.text.contains('.') {
         return parse_address(token);
     }
-    let length = token.number("prefix length", 32)?;
-    Ok(prefix_mask(length))
+    token
+        .number("prefix length", u32::BITS)
+        .map(|length| prefix_mask(length).into())
 }
 
 /// The mask of an address's first bits.
 fn prefix_mask(length: u32) -> u32 {
-    u32::MAX.checked_shl(32 - length).unwrap_or(0)
+    u32::MAX.checked_shl(u32::BITS - length).unwrap_or(0)
 }
 
 /// One field's part of a set.
 struct Value {
     field: Field,
-    bits: u32,
-    mask: u32,
+    bits: u64,
+    mask: u64,
 }
 
 impl fmt::Display for Value {
     fn fmt(&self, f: &mut fmt::Formatter) -> fmt::Result {
         let Value { field, bits, mask } = *self;
-        let length = mask.leading_ones();
-        let digits = field.width() as usize / 4;
-        if field.is_address() && mask == field.full() {
-            write!(f, "{}", Ipv4Addr::from(bits))
-        } else if field.is_address() && mask == prefix_mask(length) {
-            write!(f, "{}/{length}", Ipv4Addr::from(bits))
-        } else if mask == field.full() {
-            write!(f, "{bits}")
-        } else {
-            write!(f, "0x{bits:0digits$x}/0x{mask:0digits$x}")
+        let address = u32::try_from(bits).ok().filter(|_| field.is_address());
+        let digits = field.width().div_ceil(4);
+        match (address.map(Ipv4Addr::from), prefix_length(mask)) {
+            (Some(address), Some(u32::BITS)) => write!(f, "{address}"),
+            (Some(address), Some(length)) => write!(f, "{address}/{length}"),
+            _ if mask == field.full() => write!(f, "{bits}"),
+            _ => write!(f, "0x{bits:0digits$x}/0x{mask:0digits$x}"),
         }
     }
+}
+
+/// How many bits of an address this mask has, if it has only the first ones.
+fn prefix_length(mask: u64) -> Option<u32> {
+    let length = u32::try_from(mask).ok()?.leading_ones();
+    (mask == prefix_mask(length).into()).then_some(length)
+}
+
+/// A set in words: these fields of it that it cares for.
+fn write_set<const N: usize>(
+    f: &mut fmt::Formatter,
+    set: &HeaderSet<N>,
+    fields: &[Field],
+) -> fmt::Result {
+    let mut first = true;
+    for &field in fields {
+        let (bits, mask) = (field.get(&set.value), field.get(&set.care));
+        if mask != 0 {
+            let comma = if first { "" } else { "," };
+            let value = Value { field, bits, mask };
+            write!(f, "{comma}{}={value}", field.name())?;
+            first = false;
+        }
+    }
+    if first {
+        f.write_str(ANY)?;
+    }
+    Ok(())
 }
 
 impl fmt::Display for HeaderSet {
     fn fmt(&self, f: &mut fmt::Formatter) -> fmt::Result {
-        let mut first = true;
-        for field in Field::ALL {
-            let (bits, mask) = (field.get(&self.value), field.get(&self.care));
-            if mask != 0 {
-                let comma = if first { "" } else { "," };
-                let value = Value { field, bits, mask };
-                write!(f, "{comma}{}={value}", field.name())?;
-                first = false;
-            }
-        }
-        if first {
-            f.write_str(ANY)?;
-        }
-        Ok(())
+        write_set(f, self, &Field::ALL)
     }
 }
 
-impl Header {
+impl<const N: usize> Header<N> {
     /// A field's value in words: addresses dotted, others decimal.
     pub fn in_words(&self, field: Field) -> String {
         let value = Value {

@@ -1,5 +1,7 @@
 //! Pieces of a text that know where they stand.
 
+use std::fmt::Display;
+
 use super::Wrong;
 
 /// A piece of one line.
@@ -73,7 +75,10 @@ impl<'t> Token<'t> {
     }
 
     /// A decimal number, or a hexadecimal one after 0x, up to `most`.
-    pub(super) fn number(&self, what: &str, most: u32) -> Result<u32, Wrong> {
+    pub(super) fn number<T>(&self, what: &str, most: T) -> Result<T, Wrong>
+    where
+        T: TryFrom<u64> + Ord + Display,
+    {
         let (digits, radix) = match self.text.strip_prefix("0x") {
             Some(digits) => (digits, 16),
             None => (self.text, 10),
@@ -82,9 +87,9 @@ impl<'t> Token<'t> {
         if digits.is_empty() || !all_digits {
             return Err(self.wrong(format!("'{}' is no {what}", self.text)));
         }
-        let number = u32::from_str_radix(digits, radix).ok();
-        let in_range = number.filter(|&number| number <= most);
-        in_range.ok_or_else(|| {
+        let number = u64::from_str_radix(digits, radix).ok();
+        let number = number.and_then(|number| T::try_from(number).ok());
+        number.filter(|number| *number <= most).ok_or_else(|| {
             self.wrong(format!(
                 "'{}' is too large for {what}: at most {most}",
                 self.text

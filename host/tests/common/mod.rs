@@ -10,7 +10,7 @@ mod query;
 
 pub use query::to_host;
 
-use mwishovala::raw;
+use mwishovala::{raw, QUERY_NUMBERS};
 use reference::calls::{read_answer, Answer};
 use reference::Query;
 
@@ -19,7 +19,7 @@ use reference::Query;
 pub struct Call {
     pub name: &'static str,
     pub number: u32,
-    product: fn(&[u8], &mut [u8], &mwishovala::Query) -> u64,
+    product: fn(&[u8], &mut [u8], [u32; QUERY_NUMBERS]) -> u64,
     reference: fn(&[u8], &mut [u8], &Query) -> u64,
 }
 
@@ -47,7 +47,7 @@ pub const RUN: Call = Call {
 impl Call {
     /// The product's call, with the reference's query.
     pub fn product(&self, file: &[u8], area: &mut [u8], query: &Query) -> u64 {
-        (self.product)(file, area, &to_host(query))
+        (self.product)(file, area, to_host(query).numbers())
     }
 }
 
