@@ -8,7 +8,9 @@ use crate::limits::{
     MOST_LINKS, MOST_PORT,
 };
 use crate::query::Query;
-use crate::record::{record_words, Edge, Entry, Link, Record, EDGE, END, ENTRY, LINK, START};
+use crate::record::{
+    record_words, Edge, Entry, Link, Record, EDGE, END, ENTRY, LINK, START, VERSION,
+};
 use crate::refusal::Question;
 use crate::words::Words;
 
@@ -52,8 +54,8 @@ fn start(words: Words) -> Option<String> {
     let (version, counted) = (first >> 16 & 0xfff, first & 0xffff);
     Some(if first >> 28 != START {
         format!("word 0 is 0x{first:08x}, which is no start")
-    } else if version != 1 {
-        format!("the start is of version {version}, not 1")
+    } else if version != VERSION {
+        format!("the start is of version {version}, not {VERSION}")
     } else {
         let count = words.count();
         format!("the start counts {counted} words, the file has {count}")

@@ -1,7 +1,10 @@
 //! A fabric's records, in file order.
 
+#[cfg(test)]
+mod tests;
+
 use crate::calls::accept;
-use crate::record::{file_of, Edge, Entry, Link, Record};
+use crate::record::{file_of, Edge, Entry, Link, Record, Unwritable};
 use crate::refusal::Refusal;
 use crate::words::Words;
 
@@ -12,7 +15,7 @@ use crate::words::Words;
 /// let file = mwishovala::text::pack("edge 1 group 7 admits any")?;
 /// let fabric = Fabric::read(&file)?;
 /// assert_eq!(fabric.edges[0].group, 7);
-/// assert_eq!(fabric.to_bytes(), file);
+/// assert_eq!(fabric.to_bytes()?, file);
 /// # Ok::<(), Box<dyn std::error::Error>>(())
 /// ```
 #[derive(Clone, Debug, Default, PartialEq, Eq)]
@@ -29,7 +32,17 @@ impl Fabric {
     /// The records of a file that the proved library accepts.
     pub fn read(file: &[u8]) -> Result<Fabric, Refusal> {
         accept(file)?;
-        Ok(Fabric::before(Words(file), usize::MAX))
+        Fabric::whole(file).ok_or_else(|| Refusal {
+            reason: "the library accepts a file that this host can't read whole".into(),
+            ..Refusal::unknown()
+        })
+    }
+
+    /// The records of a file, if they are all that it says: written again, they
+    /// are its bytes.
+    fn whole(file: &[u8]) -> Option<Fabric> {
+        let fabric = Fabric::before(Words(file), usize::MAX);
+        (fabric.to_bytes().as_deref() == Ok(file)).then_some(fabric)
     }
 
     /// The records before this place, as they stand.
@@ -45,9 +58,10 @@ impl Fabric {
         fabric
     }
 
-    /// The file that says this; of a fabric that was read, the bytes it was
-    /// read from. Whether it is accepted is for `accept` to say.
-    pub fn to_bytes(&self) -> Vec<u8> {
+    /// The file that says this, or what a file has no room for; of a fabric that
+    /// was read, the bytes it was read from. Whether it is accepted is for
+    /// `accept` to say.
+    pub fn to_bytes(&self) -> Result<Vec<u8>, Unwritable> {
         let edges = self.edges.iter().copied().map(Record::Edge);
         let links = self.links.iter().copied().map(Record::Link);
         let entries = self.entries.iter().copied().map(Record::Entry);

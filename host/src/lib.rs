@@ -40,7 +40,7 @@ pub use finds::{Find, Finds};
 pub use header::{Header, HeaderSet};
 pub use path::Path;
 pub use query::{Query, QUERY_NUMBERS, USUAL_BUDGET};
-pub use record::{Edge, Entry, Link};
+pub use record::{Edge, Entry, Link, Unwritable};
 pub use refusal::{Place, Question, Refusal};
 pub use run::{Fate, Run};
 pub use verdict::Verdict;

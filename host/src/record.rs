@@ -1,7 +1,11 @@
 //! The records of a fabric file, read without asking whether they are right:
 //! that is the proved library's to say.
 
+use std::error::Error;
+use std::fmt;
+
 use crate::header::HeaderSet;
+use crate::limits::MOST_PORT;
 use crate::words::Words;
 
 /// Kinds, in the order in which records stand in a file.
@@ -10,6 +14,9 @@ pub(crate) const EDGE: u32 = 2;
 pub(crate) const LINK: u32 = 3;
 pub(crate) const ENTRY: u32 = 4;
 pub(crate) const END: u32 = 5;
+
+/// The file's version, whose headers have four words.
+pub(crate) const VERSION: u32 = 1;
 
 /// An edge port, its group, and the headers that the group may send there.
 #[derive(Clone, Copy, Debug, PartialEq, Eq)]
@@ -65,7 +72,8 @@ pub(crate) const fn record_words<const N: usize>(kind: u32) -> usize {
 }
 
 impl<'f> Words<'f> {
-    /// The edge, link or entry that starts here.
+    /// The edge, link or entry that starts here; none if it has a bit set that
+    /// these have no place for.
     pub(crate) fn record<const N: usize>(&self, place: usize) -> Option<Record<N>> {
         let first = self.get(place)?;
         let upper = (first >> 12) as u16;
@@ -76,13 +84,13 @@ impl<'f> Words<'f> {
                 admitted: self.set(place + 1)?,
             })),
             LINK => Some(Record::Link(Link {
-                from: upper & 0xfff,
+                from: port_alone(first >> 12 & 0xffff)?,
                 to: port(first),
             })),
             ENTRY => Some(Record::Entry(Entry {
                 priority: upper,
                 in_port: port(first),
-                out_port: port(self.get(place + 1)?),
+                out_port: port_alone(self.get(place + 1)?)?,
                 matching: self.set(place + 2)?,
                 rewrite: self.set(place + 2 + 2 * N)?,
             })),
@@ -105,8 +113,42 @@ impl<'f> Words<'f> {
 
 /// The port in bits 11..0.
 fn port(word: u32) -> u16 {
-    (word & 0xfff) as u16
+    (word & PORT_BITS) as u16
 }
+
+/// The port in bits 11..0, if no other bit is set.
+fn port_alone(word: u32) -> Option<u16> {
+    (word & !PORT_BITS == 0).then(|| port(word))
+}
+
+const PORT_BITS: u32 = 0xfff;
+
+/// Why records can't be written: the file's words have too few bits for them.
+#[derive(Clone, Copy, Debug, PartialEq, Eq)]
+#[non_exhaustive]
+pub enum Unwritable {
+    /// A port above 4095.
+    Port(u16),
+    /// More words than a start can count.
+    Words(usize),
+}
+
+impl fmt::Display for Unwritable {
+    fn fmt(&self, f: &mut fmt::Formatter) -> fmt::Result {
+        match self {
+            Unwritable::Port(port) => write!(f, "port {port}: ports are 1 to {MOST_PORT}"),
+            Unwritable::Words(words) => {
+                let most = u16::MAX;
+                write!(
+                    f,
+                    "the file has {words} words, and a start counts at most {most}"
+                )
+            }
+        }
+    }
+}
+
+impl Error for Unwritable {}
 
 impl<const N: usize> Record<N> {
     pub(crate) fn kind(&self) -> u32 {
@@ -123,33 +165,43 @@ impl<const N: usize> Record<N> {
     }
 
     /// Adds its words.
-    fn write(&self, words: &mut Vec<u32>) {
-        let first = |kind: u32, upper: u16, lower: u16| {
-            kind << 28 | u32::from(upper) << 12 | u32::from(lower & 0xfff)
-        };
+    fn write(&self, words: &mut Vec<u32>) -> Result<(), Unwritable> {
+        let first = |upper: u32, port: u16| Ok(self.kind() << 28 | upper << 12 | port_bits(port)?);
         match self {
             Record::Edge(edge) => {
-                words.push(first(EDGE, edge.group, edge.port));
+                words.push(first(edge.group.into(), edge.port)?);
                 write_set(&edge.admitted, words);
             }
-            Record::Link(link) => words.push(first(LINK, link.from & 0xfff, link.to)),
+            Record::Link(link) => words.push(first(port_bits(link.from)?, link.to)?),
             Record::Entry(entry) => {
-                words.push(first(ENTRY, entry.priority, entry.in_port));
-                words.push(u32::from(entry.out_port & 0xfff));
+                words.push(first(entry.priority.into(), entry.in_port)?);
+                words.push(port_bits(entry.out_port)?);
                 write_set(&entry.matching, words);
                 write_set(&entry.rewrite, words);
             }
         }
+        Ok(())
+    }
+}
+
+/// A port as bits 11..0.
+fn port_bits(port: u16) -> Result<u32, Unwritable> {
+    match port {
+        0..=MOST_PORT => Ok(port.into()),
+        _ => Err(Unwritable::Port(port)),
     }
 }
 
 /// The file of these records, which are in their order.
-pub(crate) fn file_of(records: impl Iterator<Item = Record>) -> Vec<u8> {
+pub(crate) fn file_of(records: impl Iterator<Item = Record>) -> Result<Vec<u8>, Unwritable> {
     let mut words = vec![0];
-    records.for_each(|record| record.write(&mut words));
+    for record in records {
+        record.write(&mut words)?;
+    }
     words.push(END << 28);
-    words[0] = START << 28 | 1 << 16 | words.len() as u32 & 0xffff;
-    words.iter().flat_map(|word| word.to_le_bytes()).collect()
+    let count = u16::try_from(words.len()).map_err(|_| Unwritable::Words(words.len()))?;
+    words[0] = START << 28 | VERSION << 16 | u32::from(count);
+    Ok(words.iter().flat_map(|word| word.to_le_bytes()).collect())
 }
 
 fn write_set<const N: usize>(set: &HeaderSet<N>, words: &mut Vec<u32>) {

@@ -34,7 +34,7 @@ fn files_damaged_more_than_once() {
 /// Accepted and read as the reference reads it, or refused with a reason.
 fn check_accept(file: &[u8]) {
     match (Fabric::read(file), read(file)) {
-        (Ok(fabric), Ok(_)) => assert_eq!(fabric.to_bytes(), file),
+        (Ok(fabric), Ok(_)) => assert_eq!(fabric.to_bytes().unwrap(), file),
         (Err(refusal), Err(expected)) => {
             assert_eq!(refusal.question.number(), expected.number);
             assert_eq!(refusal.place, expected.place as u64);

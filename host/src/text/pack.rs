@@ -27,7 +27,8 @@ pub fn pack(text: &str) -> Result<Vec<u8>, Wrong> {
         })?);
     }
     lines.sort_by_key(|line| in_file_order(&line.record));
-    let file = file_of(lines.iter().map(|line| line.record));
+    let records = lines.iter().map(|line| line.record);
+    let file = file_of(records).map_err(|error| too_long(&lines, error.to_string()))?;
     match accept(&file) {
         Ok(()) => Ok(file),
         Err(refusal) => Err(wrong(&lines, &refusal)),
@@ -47,15 +48,20 @@ fn in_file_order(record: &Record) -> (u32, u16) {
 
 /// A refusal of the packed file, at the line that it is about.
 fn wrong(lines: &[Line], refusal: &Refusal) -> Wrong {
-    let about = match refusal.question {
-        Question::Length => first_past_its_limit(lines),
-        _ => at_place(lines, refusal.place),
-    };
     let message = refusal.to_string();
-    match (about, refusal.question) {
+    match (at_place(lines, refusal.place), refusal.question) {
+        (_, Question::Length) => too_long(lines, message),
         (Some(line), Question::Ports | Question::Links) => line.port.wrong(message),
         (Some(line), _) => line.first.wrong(message),
         (None, _) => Token::whole("").wrong(message),
+    }
+}
+
+/// A packed file is too long only if one kind has too many records.
+fn too_long(lines: &[Line], message: String) -> Wrong {
+    match first_past_its_limit(lines) {
+        Some(line) => line.first.wrong(message),
+        None => Token::whole("").wrong(message),
     }
 }
 
@@ -68,7 +74,6 @@ fn at_place<'l, 't>(lines: &'l [Line<'t>], place: u64) -> Option<&'l Line<'t>> {
     })
 }
 
-/// A packed file is too long only if one kind has too many records.
 fn first_past_its_limit<'l, 't>(lines: &'l [Line<'t>]) -> Option<&'l Line<'t>> {
     let nth_of_kind = |kind, limit| {
         let mut of_kind = lines.iter().filter(move |line| line.record.kind() == kind);

@@ -1,0 +1,68 @@
+//! What is read is all that a file says, or it isn't read.
+
+use super::Fabric;
+use crate::text;
+
+const TEXT: &str = "
+    edge 1 group 7 admits nw_src=10.0.0.0/24
+    link 10 -> 11
+    entry 1 -> 10 priority 20 match any set dl_vlan=5
+";
+
+/// The places of start, edge, link, the entry's second word, and end.
+const START: usize = 0;
+const EDGE: usize = 1;
+const LINK: usize = 10;
+const ENTRY: usize = 11;
+const SECOND: usize = 12;
+const END: usize = 29;
+
+#[test]
+fn a_file_is_read_whole() {
+    let file = text::pack(TEXT).unwrap();
+    let fabric = Fabric::whole(&file).expect("it is read");
+    assert_eq!(fabric.to_bytes().unwrap(), file);
+}
+
+/// A bit more in any word: it is in what was read, or nothing was read.
+#[test]
+fn no_bit_is_lost_in_reading() {
+    let file = text::pack(TEXT).unwrap();
+    for bit in 0..8 * file.len() {
+        let mut changed = file.clone();
+        changed[bit / 8] ^= 1 << (bit % 8);
+        if let Some(fabric) = Fabric::whole(&changed) {
+            assert_eq!(fabric.to_bytes().unwrap(), changed, "bit {bit}");
+        }
+    }
+}
+
+/// The bits that are zero today.
+#[test]
+fn bits_without_a_meaning_are_not_read() {
+    let zero_bits = [
+        (START, 16..28),
+        (LINK, 24..28),
+        (SECOND, 12..32),
+        (END, 0..28),
+    ];
+    let file = text::pack(TEXT).unwrap();
+    for (word, bits) in zero_bits {
+        for bit in bits {
+            assert_eq!(
+                Fabric::whole(&with_bit(&file, word, bit)),
+                None,
+                "{word}, {bit}"
+            );
+        }
+    }
+    for word in [EDGE, ENTRY] {
+        assert!(Fabric::whole(&with_bit(&file, word, 27)).is_some());
+    }
+}
+
+fn with_bit(file: &[u8], word: usize, bit: usize) -> Vec<u8> {
+    let mut changed = file.to_vec();
+    changed[4 * word + bit / 8] ^= 1 << (bit % 8);
+    changed
+}
