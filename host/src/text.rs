@@ -13,12 +13,16 @@
 //! Entries are numbered from 0 as they stand; edges and links, whose order in a
 //! file is fixed, may stand anywhere.
 
+mod echo;
 mod line;
+mod lines;
 mod pack;
+mod sentence;
 mod sets;
 mod show;
 mod token;
 
+pub use lines::{MOST_LINES, MOST_LINE_BYTES, MOST_WORD_BYTES};
 pub use pack::pack;
 pub use show::show;
 
@@ -30,9 +34,11 @@ use std::fmt;
 /// What is wrong with a text, and where, counted from 1.
 #[derive(Clone, Debug, PartialEq, Eq)]
 pub struct Wrong {
+    /// Which line.
     pub line: usize,
-    /// In characters.
+    /// Which of its characters.
     pub column: usize,
+    /// What is wrong, with nothing of the text in it that isn't printable.
     pub message: String,
 }
 

@@ -1,7 +1,7 @@
 //! Fabrics as text: packing what is shown gives the same bytes, and what is
 //! wrong is said with its line and column.
 
-use mwishovala::text::{pack, show};
+use mwishovala::text::{pack, show, Wrong};
 use mwishovala::{accept, Fabric, HeaderSet};
 use reference::file::write;
 use reference::random::{any, cases, Rng};
@@ -93,6 +93,14 @@ fn wrong_sets() {
         ("tp_dst=0x", "1:8: '0x' is no tp_dst"),
         ("nw_tos=1,nw_src=10.0.0", "1:17: '10.0.0' is no address"),
         (
+            "nw_src=10.0.300.1",
+            "1:13: '300' is too large for byte of an address: at most 255",
+        ),
+        (
+            "tp_dst=0x100000000000000000000",
+            "1:8: '0x100000000000000000000' is too large for tp_dst: at most 65535",
+        ),
+        (
             "nw_src=10.0.0.0/33",
             "1:17: '33' is too large for prefix length: at most 32",
         ),
@@ -157,6 +165,74 @@ fn wrong_lines() {
     }
 }
 
+/// What a text may have at most, and one more.
+#[test]
+fn long_texts() {
+    let line = |bytes: usize| format!("\n#{}", "é".repeat((bytes - 1) / 2));
+    assert!(pack(&line(4095)).is_ok());
+    assert_eq!(
+        pack(&line(4097)).unwrap_err().to_string(),
+        "2:1: a line of 4097 bytes: it has at most 4096"
+    );
+    let word = |bytes: usize| format!("edge 1 group {}7 admits any", "0".repeat(bytes - 1));
+    assert!(pack(&word(512)).is_ok());
+    assert_eq!(
+        pack(&word(513)).unwrap_err().to_string(),
+        "1:14: a word of 513 bytes: it has at most 512"
+    );
+    assert!(pack(&"#\n".repeat(65_536)).is_ok());
+    assert_eq!(
+        pack(&"#\n".repeat(65_537)).unwrap_err().to_string(),
+        "65537:1: the text has more than 65536 lines"
+    );
+    let records = "link 5 -> 6\n".repeat(65_534);
+    assert_eq!(
+        pack(&records).unwrap_err().to_string(),
+        "257:1: the file has 65536 words, and a start counts at most 65535"
+    );
+}
+
+/// Nine megabytes in one line, of words, of fields and of one word: read once,
+/// not once for each word.
+#[test]
+fn one_line_of_nine_megabytes() {
+    const BYTES: usize = 9 << 20;
+    for piece in ["a ", "tp_dst=80,", "9", "=", "\u{1b}[2J", "/", "."] {
+        let line = format!("edge {}", piece.repeat(BYTES / piece.len()));
+        let wrong = pack(&line).unwrap_err();
+        assert_eq!((wrong.line, wrong.column), (1, 1));
+        // One that is told on the command's line has no limit but its length.
+        let wrong = line["edge ".len()..].parse::<HeaderSet>().unwrap_err();
+        assert!(wrong.message.chars().count() < 300, "{piece}");
+    }
+}
+
+/// Nothing of a text gets to a terminal but what can be printed.
+#[test]
+fn what_is_said_again() {
+    let said = [
+        ("\u{1b}[2Jedge", "1:1: '\\u{1b}[2Jedge': a line is"),
+        ("edge \u{0}1", "1:6: '\\01' is no port"),
+        ("edge 1\u{7f}", "1:6: '1\\u{7f}' is no port"),
+        ("edge \u{202e}1", "1:6: '\\u{202e}1' is no port"),
+        ("edge \\u{0}1", "1:6: '\\\\u{0}1' is no port"),
+        ("edge '1'", "1:6: ''1'' is no port"),
+        ("edge é", "1:6: 'é' is no port"),
+        (
+            "\u{feff}edge 1 group 1 admits any",
+            "1:1: a byte order mark (BOM) stands before the line",
+        ),
+        ("edge \u{feff}1", "1:6: '\\u{feff}1' is no port"),
+    ];
+    for (text, message) in said {
+        let wrong = pack(text).unwrap_err().to_string();
+        assert!(wrong.starts_with(message), "{wrong}");
+    }
+    let long = format!("edge {}", "x".repeat(500));
+    let expected = format!("1:6: '{}…' is no port", "x".repeat(60));
+    assert_eq!(pack(&long).unwrap_err().to_string(), expected);
+}
+
 /// What the proved library refuses is said at its line.
 #[test]
 fn refused_lines() {
@@ -214,10 +290,61 @@ fn damaged_texts() {
         let text: String = text.into_iter().collect();
         match pack(&text) {
             Ok(file) => assert!(accept(&file).is_ok()),
-            Err(wrong) => {
-                let line = text.lines().nth(wrong.line - 1).expect("the line is there");
-                assert!((1..=line.chars().count() + 1).contains(&wrong.column));
-            }
+            Err(wrong) => check_wrong(&text, &wrong),
         }
     });
+}
+
+/// Texts of words that stand in fabrics, and of others, in any order.
+#[test]
+fn texts_at_random() {
+    const WORDS: [&str; 24] = [
+        "edge",
+        "link",
+        "entry",
+        "1",
+        "2",
+        "4095",
+        "4096",
+        "->",
+        "drop",
+        "group",
+        "admits",
+        "priority",
+        "match",
+        "set",
+        "any",
+        "tp_dst=80",
+        "nw_src=10.0.0.0/8",
+        "nw_src=1.2.3.4/",
+        "=,/.",
+        "99999999999999999999",
+        "\u{1b}]0;",
+        "\u{feff}",
+        "\u{202e}é",
+        "#",
+    ];
+    cases(8_300_000, 20_000, |rng| {
+        let mut text = String::new();
+        for _ in 0..rng.between(1, 30) {
+            text += rng.one_of(WORDS);
+            text += rng.one_of([" ", " ", " ", "\n", "", "\t"]);
+        }
+        match pack(&text) {
+            Ok(file) => {
+                let shown = show(&Fabric::read(&file).unwrap());
+                assert_eq!(pack(&shown).as_deref(), Ok(&file[..]));
+            }
+            Err(wrong) => check_wrong(&text, &wrong),
+        }
+    });
+}
+
+/// It stands in the text, and can be printed.
+fn check_wrong(text: &str, wrong: &Wrong) {
+    let line = text.lines().nth(wrong.line - 1).expect("the line is there");
+    assert!((1..=line.chars().count() + 1).contains(&wrong.column));
+    assert!(!wrong
+        .message
+        .contains(|c: char| c.is_control() || c == '\u{feff}'));
 }

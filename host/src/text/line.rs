@@ -1,10 +1,10 @@
-//! One line of a fabric's text.
+//! A line that says a record.
 
-use super::sets::parse_set;
+use super::echo::quoted;
+use super::sentence::{port_of, Sentence};
 use super::token::Token;
 use super::Wrong;
 use crate::header::HeaderSet;
-use crate::limits::MOST_PORT;
 use crate::record::{Edge, Entry, Link, Record};
 
 /// A record, and where it stands.
@@ -16,29 +16,26 @@ pub(super) struct Line<'t> {
 }
 
 impl<'t> Line<'t> {
-    /// A line without its remark; none if nothing is left.
-    pub(super) fn parse(line: Token<'t>) -> Result<Option<Line<'t>>, Wrong> {
-        let mut words = Sentence::new(line);
-        let Some(first) = words.next() else {
-            return Ok(None);
-        };
+    /// The record whose line has this first word, and these further ones.
+    pub(super) fn parse(first: Token<'t>, words: &mut Sentence<'t>) -> Result<Line<'t>, Wrong> {
         let parse: Parse = match first.text {
             "edge" => edge,
             "link" => link,
             "entry" => entry,
             other => {
-                let message = format!("'{other}': a line is an edge, a link or an entry");
+                let said = quoted(other);
+                let message = format!("{said}: a line is an edge, a link or an entry");
                 return Err(first.wrong(message));
             }
         };
         let port = words.want("a port")?;
-        let record = parse(&port, &mut words)?;
+        let record = parse(&port, words)?;
         words.end()?;
-        Ok(Some(Line {
+        Ok(Line {
             first,
             port,
             record,
-        }))
+        })
     }
 }
 
@@ -78,7 +75,9 @@ fn entry(in_port: &Token, words: &mut Sentence) -> Result<Record, Wrong> {
     let matching = words.set()?;
     let rewrite = match words.next() {
         Some(word) if word.text == "set" => words.set()?,
-        Some(word) => return Err(word.wrong(format!("'{}' instead of 'set'", word.text))),
+        Some(word) => {
+            return Err(word.wrong(format!("{} instead of 'set'", quoted(word.text))));
+        }
         None => HeaderSet::ALL_WILD,
     };
     Ok(Record::Entry(Entry {
@@ -88,56 +87,4 @@ fn entry(in_port: &Token, words: &mut Sentence) -> Result<Record, Wrong> {
         matching,
         rewrite,
     }))
-}
-
-fn port_of(token: &Token) -> Result<u16, Wrong> {
-    token.number("port", MOST_PORT)
-}
-
-/// The words of a line, one after the other.
-struct Sentence<'t> {
-    words: std::vec::IntoIter<Token<'t>>,
-    /// Where a word is missing.
-    after: Token<'t>,
-}
-
-impl<'t> Sentence<'t> {
-    fn new(line: Token<'t>) -> Sentence<'t> {
-        Sentence {
-            words: line.words().collect::<Vec<_>>().into_iter(),
-            after: line.end(),
-        }
-    }
-
-    fn next(&mut self) -> Option<Token<'t>> {
-        self.words.next()
-    }
-
-    fn want(&mut self, what: &str) -> Result<Token<'t>, Wrong> {
-        let missing = || self.after.wrong(format!("{what} is missing"));
-        self.words.next().ok_or_else(missing)
-    }
-
-    fn keyword(&mut self, keyword: &str) -> Result<(), Wrong> {
-        let word = self.want(&format!("'{keyword}'"))?;
-        if word.text == keyword {
-            return Ok(());
-        }
-        Err(word.wrong(format!("'{}' instead of '{keyword}'", word.text)))
-    }
-
-    fn number(&mut self, what: &str, most: u16) -> Result<u16, Wrong> {
-        self.want(&format!("a {what}"))?.number(what, most)
-    }
-
-    fn set(&mut self) -> Result<HeaderSet, Wrong> {
-        parse_set(self.want("a header set, or 'any',")?)
-    }
-
-    fn end(&mut self) -> Result<(), Wrong> {
-        match self.next() {
-            Some(word) => Err(word.wrong(format!("'{}' is too much", word.text))),
-            None => Ok(()),
-        }
-    }
 }

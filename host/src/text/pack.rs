@@ -1,6 +1,8 @@
 //! Text to a fabric file.
 
 use super::line::Line;
+use super::lines::lines;
+use super::sentence::Sentence;
 use super::token::Token;
 use super::Wrong;
 use crate::calls::accept;
@@ -17,21 +19,19 @@ use crate::refusal::{Question, Refusal};
 /// assert_eq!(wrong.to_string(), "2:6: question 6 at word 10: link 1→40 starts at an edge port");
 /// ```
 pub fn pack(text: &str) -> Result<Vec<u8>, Wrong> {
-    let mut lines = Vec::new();
-    for (number, line) in text.lines().enumerate() {
-        let said = line.split('#').next().unwrap_or("");
-        lines.extend(Line::parse(Token {
-            line: number + 1,
-            column: 1,
-            text: said,
-        })?);
+    let mut said = Vec::new();
+    for line in lines(text) {
+        let mut words = Sentence::new(line?);
+        if let Some(first) = words.next() {
+            said.push(Line::parse(first, &mut words)?);
+        }
     }
-    lines.sort_by_key(|line| in_file_order(&line.record));
-    let records = lines.iter().map(|line| line.record);
-    let file = file_of(records).map_err(|error| too_long(&lines, error.to_string()))?;
+    said.sort_by_key(|line| in_file_order(&line.record));
+    let records = said.iter().map(|line| line.record);
+    let file = file_of(records).map_err(|error| too_long(&said, error.to_string()))?;
     match accept(&file) {
         Ok(()) => Ok(file),
-        Err(refusal) => Err(wrong(&lines, &refusal)),
+        Err(refusal) => Err(wrong(&said, &refusal)),
     }
 }
 

@@ -4,6 +4,7 @@ use std::fmt;
 use std::net::Ipv4Addr;
 use std::str::FromStr;
 
+use super::echo::quoted;
 use super::token::Token;
 use super::Wrong;
 use crate::field::Field;
@@ -43,7 +44,7 @@ pub(super) fn parse_set(token: Token) -> Result<HeaderSet, Wrong> {
     for part in token.split(',') {
         let (name, value) = part
             .split_once('=')
-            .ok_or_else(|| part.wrong(format!("'{}' isn't FIELD=VALUE", part.text)))?;
+            .ok_or_else(|| part.wrong(format!("{} isn't FIELD=VALUE", quoted(part.text))))?;
         let field = field_named(&name)?;
         if named.contains(&field) {
             return Err(name.wrong(format!("{} stands here twice", field.name())));
@@ -61,7 +62,10 @@ pub(super) fn parse_set(token: Token) -> Result<HeaderSet, Wrong> {
 fn field_named(name: &Token) -> Result<Field, Wrong> {
     Field::named(name.text).ok_or_else(|| {
         let names = Field::ALL.map(Field::name).join(", ");
-        name.wrong(format!("'{}' is no field: these are {names}", name.text))
+        name.wrong(format!(
+            "{} is no field: these are {names}",
+            quoted(name.text)
+        ))
     })
 }
 
@@ -78,6 +82,7 @@ fn value_and_mask(field: Field, token: Token) -> Result<(u64, u64), Wrong> {
             bits: bits & mask,
             mask,
         };
+        // Digits, dots and a slash: it has been read.
         let text = token.text;
         return Err(value.wrong(format!("{text} has bits outside its mask: {meant}?")));
     }
@@ -97,11 +102,15 @@ fn parse_value(field: Field, token: &Token) -> Result<u64, Wrong> {
 }
 
 fn parse_address(token: &Token) -> Result<u64, Wrong> {
-    let address: Result<Ipv4Addr, _> = token.text.parse();
-    let wrong = |_| token.wrong(format!("'{}' is no address", token.text));
-    address
-        .map(|address| u32::from(address).into())
-        .map_err(wrong)
+    if let Ok(address) = token.text.parse::<Ipv4Addr>() {
+        return Ok(u32::from(address).into());
+    }
+    if token.split('.').count() == 4 {
+        for byte in token.split('.') {
+            byte.number("byte of an address", u8::MAX)?;
+        }
+    }
+    Err(token.wrong(format!("{} is no address", quoted(token.text))))
 }
 
 fn parse_mask(field: Field, token: &Token) -> Result<u64, Wrong> {

@@ -2,30 +2,42 @@
 
 use std::fmt::Display;
 
+use super::echo::quoted;
 use super::Wrong;
 
 /// A piece of one line.
 #[derive(Clone, Copy, Debug)]
 pub(super) struct Token<'t> {
-    pub(super) line: usize,
-    pub(super) column: usize,
+    /// The line's number, from 1.
+    line: usize,
+    /// All of the line, of which columns are counted only when they are said.
+    whole: &'t str,
+    /// The byte of the line that the piece starts at.
+    from: usize,
     pub(super) text: &'t str,
 }
 
 impl<'t> Token<'t> {
-    /// A text that has one line.
-    pub(super) fn whole(text: &'t str) -> Token<'t> {
+    /// A whole line, by its number.
+    pub(super) fn line(number: usize, text: &'t str) -> Token<'t> {
         Token {
-            line: 1,
-            column: 1,
+            line: number,
+            whole: text,
+            from: 0,
             text,
         }
     }
 
+    /// A text that has one line.
+    pub(super) fn whole(text: &'t str) -> Token<'t> {
+        Token::line(1, text)
+    }
+
     pub(super) fn wrong(&self, message: impl Into<String>) -> Wrong {
+        let before = self.whole.get(..self.from).unwrap_or(self.whole);
         Wrong {
             line: self.line,
-            column: self.column,
+            column: 1 + before.chars().count(),
             message: message.into(),
         }
     }
@@ -33,7 +45,7 @@ impl<'t> Token<'t> {
     /// The piece from this byte to that one.
     fn piece(&self, from: usize, to: usize) -> Token<'t> {
         Token {
-            column: self.column + self.text[..from].chars().count(),
+            from: self.from + from,
             text: &self.text[from..to],
             ..*self
         }
@@ -43,6 +55,12 @@ impl<'t> Token<'t> {
     pub(super) fn end(&self) -> Token<'t> {
         let trimmed = self.text.trim_end().len();
         self.piece(trimmed, trimmed)
+    }
+
+    /// What stands before the first of these characters; all of it if there is
+    /// none.
+    pub(super) fn before(&self, at: char) -> Token<'t> {
+        self.piece(0, self.text.find(at).unwrap_or(self.text.len()))
     }
 
     /// What stands before the first of these characters, and after it.
@@ -85,15 +103,13 @@ impl<'t> Token<'t> {
         };
         let all_digits = digits.chars().all(|digit| digit.is_digit(radix));
         if digits.is_empty() || !all_digits {
-            return Err(self.wrong(format!("'{}' is no {what}", self.text)));
+            return Err(self.wrong(format!("{} is no {what}", quoted(self.text))));
         }
         let number = u64::from_str_radix(digits, radix).ok();
         let number = number.and_then(|number| T::try_from(number).ok());
         number.filter(|number| *number <= most).ok_or_else(|| {
-            self.wrong(format!(
-                "'{}' is too large for {what}: at most {most}",
-                self.text
-            ))
+            let said = quoted(self.text);
+            self.wrong(format!("{said} is too large for {what}: at most {most}"))
         })
     }
 }
