@@ -21,6 +21,7 @@ mod field;
 mod finds;
 mod header;
 pub mod limits;
+mod names;
 mod path;
 mod query;
 #[allow(unsafe_code)]
@@ -38,6 +39,7 @@ pub use fabric::Fabric;
 pub use field::{Field, MOST_FIELD_BITS};
 pub use finds::{Find, Finds};
 pub use header::{Header, HeaderSet};
+pub use names::{NamedPort, Names, Unreadable, MOST_NAME};
 pub use path::Path;
 pub use query::{Query, QUERY_NUMBERS, USUAL_BUDGET};
 pub use record::{Edge, Entry, Link, Unwritable};

@@ -6,9 +6,15 @@
 //! edge 1 group 7 admits nw_src=10.0.0.0/24
 //! edge 2 group 9 admits any
 //! link 10 -> 11
-//! entry 1 -> 10 priority 20 match nw_dst=10.0.0.2,tp_dst=80 set dl_vlan=5
+//! entry 1 -> 10 priority 20 match nw_dst=10.0.0.2,nw_proto=tcp,tp_dst=80 set dl_vlan=5
 //! entry 11 -> drop priority 1 match any
+//! name 2 storage-a
+//! switch leaf-1 1 10
 //! ```
+//!
+//! A name is a letter, then letters, digits, `-`, `_` and `.`, 64 at most. Each
+//! port has at most one and is on at most one switch, and no two have the same.
+//! Names aren't in the fabric file: they are kept beside it.
 //!
 //! Entries are numbered from 0 as they stand; edges and links, whose order in a
 //! file is fixed, may stand anywhere.
@@ -16,6 +22,7 @@
 mod echo;
 mod line;
 mod lines;
+mod names;
 mod pack;
 mod sentence;
 mod sets;
@@ -23,8 +30,8 @@ mod show;
 mod token;
 
 pub use lines::{MOST_LINES, MOST_LINE_BYTES, MOST_WORD_BYTES};
-pub use pack::pack;
-pub use show::show;
+pub use pack::{pack, pack_named, Packed};
+pub use show::{show, show_named};
 
 pub(crate) use sets::parse_header;
 

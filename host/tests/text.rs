@@ -126,7 +126,7 @@ fn wrong_lines() {
     let wrong = [
         (
             "port 1",
-            "1:1: 'port': a line is an edge, a link or an entry",
+            "1:1: 'port': a line is an edge, a link, an entry, a name or a switch",
         ),
         ("\n  edge", "2:7: a port is missing"),
         ("edge 1 grup 2 admits any", "1:8: 'grup' instead of 'group'"),

@@ -2,15 +2,18 @@
 
 use super::line::Line;
 use super::lines::lines;
+use super::names::begins_a_name;
 use super::sentence::Sentence;
 use super::token::Token;
 use super::Wrong;
 use crate::calls::accept;
 use crate::limits::{MOST_EDGES, MOST_ENTRIES, MOST_LINKS};
+use crate::names::Names;
 use crate::record::{file_of, Record, EDGE, ENTRY, LINK};
 use crate::refusal::{Question, Refusal};
 
-/// The fabric file that this text says; the proved library accepts it.
+/// The fabric file that this text says; the proved library accepts it. What the
+/// text names is left to [`pack_named`].
 ///
 /// ```
 /// use mwishovala::text::pack;
@@ -19,18 +22,42 @@ use crate::refusal::{Question, Refusal};
 /// assert_eq!(wrong.to_string(), "2:6: question 6 at word 10: link 1→40 starts at an edge port");
 /// ```
 pub fn pack(text: &str) -> Result<Vec<u8>, Wrong> {
-    let mut said = Vec::new();
+    pack_named(text).map(|packed| packed.file)
+}
+
+/// What a text says.
+#[derive(Clone, Debug, PartialEq, Eq)]
+#[non_exhaustive]
+pub struct Packed {
+    /// A fabric file, which the proved library accepts. It has no names in it.
+    pub file: Vec<u8>,
+    /// The names that the text gives, to be kept beside the file.
+    pub names: Names,
+}
+
+/// The fabric file that this text says, and the names.
+///
+/// ```
+/// use mwishovala::text::{pack, pack_named};
+/// let packed = pack_named("edge 1 group 7 admits any\nname 1 storage-a").unwrap();
+/// assert_eq!(packed.file, pack("edge 1 group 7 admits any").unwrap());
+/// assert_eq!(packed.names.of_port(1), Some("storage-a"));
+/// ```
+pub fn pack_named(text: &str) -> Result<Packed, Wrong> {
+    let (mut said, mut names) = (Vec::new(), Names::default());
     for line in lines(text) {
         let mut words = Sentence::new(line?);
-        if let Some(first) = words.next() {
-            said.push(Line::parse(first, &mut words)?);
+        match words.next() {
+            Some(first) if begins_a_name(&first) => names.add(&first, &mut words)?,
+            Some(first) => said.push(Line::parse(first, &mut words)?),
+            None => (),
         }
     }
     said.sort_by_key(|line| in_file_order(&line.record));
     let records = said.iter().map(|line| line.record);
     let file = file_of(records).map_err(|error| too_long(&said, error.to_string()))?;
     match accept(&file) {
-        Ok(()) => Ok(file),
+        Ok(()) => Ok(Packed { file, names }),
         Err(refusal) => Err(wrong(&said, &refusal)),
     }
 }

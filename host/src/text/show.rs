@@ -4,7 +4,13 @@ use std::fmt::Write;
 
 use crate::fabric::Fabric;
 use crate::header::HeaderSet;
+use crate::names::Names;
 use crate::record::Entry;
+
+/// The same as [`show`], and a line for each name.
+pub fn show_named(fabric: &Fabric, names: &Names) -> String {
+    format!("{}{names}", show(fabric))
+}
 
 /// A line for each edge, link and entry; packing it gives the fabric's file.
 pub fn show(fabric: &Fabric) -> String {
