@@ -1,4 +1,6 @@
-/* The proved fabric library, for hosts in C or with a C interface.
+/* The proved fabric library, libmwishovala.a, for hosts in C or with a C
+ * interface. Its code is independent of its place, so a shared object can be
+ * made of it.
  *
  * Each call reads the file, writes at most the area lent and nothing else, takes
  * no memory but its stack, and returns place * 256 + number. On success the
@@ -6,6 +8,18 @@
  * to the area; bytes past those stay. Else the number is that of the question
  * that got a no, 1 to 13, the place is the number of the record's first word in
  * the file or 0, and every byte of the area stays.
+ *
+ * Stack: a call needs up to FABRIC_STACK_BYTES below the frame that makes it,
+ * 408 KiB of them measured for the deepest fabric that is accepted; a thread
+ * with less is killed. A run needs 48 KiB.
+ * Threads: the library has no state. Any number of calls may be made at once,
+ * also on the same file, but each on an area of its own.
+ * Length 0: the pointer is then not used, and may be NULL. With any other length
+ * it points to that many bytes. A file of length 0 gets number 1; a list without
+ * finds succeeds on an area of length 0.
+ * Overlap: file and area must lie apart. What a call does where they share a
+ * byte is not said anywhere, and nothing of the proof holds for it.
+ * Alignment: none is needed.
  *
  * The care and value words are the asked header set; for a run, the packet's
  * header, with every care bit set. A header has four words: nw_src; nw_dst;
@@ -23,6 +37,13 @@ extern "C" {
 
 /* The bytes that a verdict or a run needs: 24 words. */
 #define FABRIC_ANSWER_BYTES 96
+
+/* The stack that a call needs, with margin. */
+#define FABRIC_STACK_BYTES (512 * 1024)
+
+/* Which library this is: "mwishovala 0.1.0, commit 0123456789ab", with -dirty
+ * behind a commit that isn't all, or unknown in its place. */
+extern const char mwishovala_version[];
 
 /* The number of the question that got a no, or 0, and the place. */
 #define FABRIC_NUMBER(code) ((unsigned)((code) % 256))

@@ -24,3 +24,7 @@ pub const MOST_FILE_BYTES: usize = LEAST_FILE_BYTES
         + MOST_ENTRIES * record_words::<4>(ENTRY));
 
 const START_WORDS: usize = 1;
+
+/// The bytes of stack that a call needs: 408 KiB were measured for 16 hops of
+/// 63 beaters each, which no fabric exceeds, and the rest is margin.
+pub const STACK_BYTES: usize = 512 << 10;

@@ -6,7 +6,21 @@
 //! no, and every byte of the area is as it was. Nothing checks that the
 //! declarations below are those of the library: they are trusted.
 
+use std::ffi::{c_char, CStr};
+
 use crate::query::QUERY_NUMBERS;
+
+/// Which library is linked, by version and commit.
+pub fn library() -> &'static str {
+    extern "C" {
+        static mwishovala_version: c_char;
+    }
+    // SAFETY: the archive has there a text that ends with 0 and never changes.
+    let named = unsafe { CStr::from_ptr(&raw const mwishovala_version) };
+    named
+        .to_str()
+        .unwrap_or("mwishovala, of an unknown version")
+}
 
 /// How many words a call's answer has.
 #[derive(Clone, Copy, Debug, PartialEq, Eq)]

@@ -5,6 +5,7 @@ use std::cell::Cell;
 use std::thread;
 
 use super::{agreed, Call};
+use mwishovala::limits;
 use reference::examples::{fabric_f, linked};
 use reference::file::write;
 use reference::random::{any, cases, damage, deep_ring, inflict, query, Damage, Rng};
@@ -60,7 +61,7 @@ pub fn with_little_stack(call: Call, room: usize) -> u64 {
     let ring = deep_ring();
     let file = write(&ring.fabric);
     let deepest = move || call.product(&file, &mut vec![0; room], &ring.query);
-    let thread = thread::Builder::new().stack_size(512 << 10);
+    let thread = thread::Builder::new().stack_size(limits::STACK_BYTES);
     thread.spawn(deepest).unwrap().join().unwrap()
 }
 

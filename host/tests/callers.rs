@@ -1,0 +1,183 @@
+//! Hosts in other languages: `callers/` has one in C, one in C++ and one in
+//! Python, which make all three calls through the header and the archive. What
+//! they get is what the reference computes.
+
+#[path = "common/command.rs"]
+mod command;
+mod common;
+
+use std::ffi::OsString;
+use std::fs;
+use std::path::{Path, PathBuf};
+use std::process::Command;
+
+use command::folder;
+use common::{reference_alone, to_host, Call, LIST, RUN, VERDICT};
+use mwishovala::{limits, raw};
+use reference::examples::{fabric_f, run_query, wild_query};
+use reference::file::write;
+use reference::random::{any, cases, damage, deep_ring, packet, query};
+use reference::Query;
+
+/// A program that makes a call, and what is told it before the call's name.
+struct Caller {
+    program: OsString,
+    first: Vec<OsString>,
+    folder: PathBuf,
+}
+
+/// Where this package's sources are, and where the archive is.
+fn sources() -> PathBuf {
+    Path::new(env!("CARGO_MANIFEST_DIR")).join("tests/callers")
+}
+
+fn archive() -> PathBuf {
+    Path::new(env!("MWISHOVALA_LIB_DIR")).join("libmwishovala.a")
+}
+
+/// Runs a tool that these tests can't do without, and gives what it prints.
+fn tool(program: impl Into<OsString>, arguments: &[OsString]) -> String {
+    let program = program.into();
+    let name = program.to_string_lossy().into_owned();
+    let output = match Command::new(&program).args(arguments).output() {
+        Ok(output) => output,
+        Err(error) => panic!("these tests need {name}, which can't be run: {error}"),
+    };
+    let (out, err) = (output.stdout, String::from_utf8_lossy(&output.stderr));
+    assert!(output.status.success(), "{name} {arguments:?}: {err}");
+    String::from_utf8(out).expect("it prints text")
+}
+
+impl Caller {
+    /// Compiled with every warning an error.
+    fn compiled(name: &str, compiler: &str, standard: &str, source: &str) -> Caller {
+        let folder = folder(name);
+        let program = folder.join("caller");
+        let include = Path::new(env!("CARGO_MANIFEST_DIR")).join("include");
+        let mut arguments: Vec<OsString> = [standard, "-O2", "-Wall", "-Wextra", "-pedantic"]
+            .map(OsString::from)
+            .into();
+        arguments.extend(["-Werror", "-pthread", "-I"].map(OsString::from));
+        arguments.extend([include.into(), sources().join(source).into()]);
+        arguments.extend([archive().into(), "-o".into(), program.clone().into()]);
+        tool(compiler, &arguments);
+        Caller {
+            program: program.into(),
+            first: vec![],
+            folder,
+        }
+    }
+
+    fn c(name: &str) -> Caller {
+        Caller::compiled(name, "gcc", "-std=c11", "caller.c")
+    }
+
+    fn cpp(name: &str) -> Caller {
+        Caller::compiled(name, "g++", "-std=c++17", "caller.cc")
+    }
+
+    /// With a shared object of all that is in the archive.
+    fn python(name: &str) -> Caller {
+        let folder = folder(name);
+        let shared = folder.join("libmwishovala.so");
+        let mut arguments = vec!["-shared".into(), "-o".into(), shared.clone().into()];
+        arguments.push("-Wl,--whole-archive,--fatal-warnings,-z,text,-z,defs".into());
+        arguments.extend([archive().into(), "-Wl,--no-whole-archive".into()]);
+        tool("gcc", &arguments);
+        Caller {
+            program: "python3".into(),
+            first: vec![sources().join("caller.py").into(), shared.into()],
+            folder,
+        }
+    }
+
+    fn said(&self, further: Vec<OsString>) -> String {
+        let arguments = [self.first.clone(), further].concat();
+        tool(&self.program, &arguments)
+    }
+
+    /// Makes a call, and compares code and area with the reference's.
+    fn check(&self, call: Call, file: &[u8], lent: usize, asked: &Query) {
+        let path = self.folder.join("fabric");
+        fs::write(&path, file).unwrap();
+        let mut told = vec![call.name.into(), path.into(), lent.to_string().into()];
+        let numbers = to_host(asked).numbers();
+        told.extend(numbers.map(|number| OsString::from(number.to_string())));
+        let (code, area) = reference_alone(call, file, lent, asked);
+        let hex: String = area.iter().map(|byte| format!("{byte:02x}")).collect();
+        let expected = format!("{} at {}\n{hex}\n", code % 256, code / 256);
+        assert_eq!(self.said(told), expected, "{}: {asked:x?}", call.name);
+    }
+
+    fn check_all(&self, first_seed: u64) {
+        self.check_empty_slices();
+        self.check_deepest();
+        cases(first_seed, 20, |rng| {
+            let fabric = any(rng);
+            let mut file = write(&fabric);
+            if rng.once_in(3) {
+                file = damage(&file, rng);
+            }
+            let asked = query(rng, &fabric, 2000);
+            let lent = rng.one_of([95, 96, 97, 4000]);
+            self.check(VERDICT, &file, lent, &asked);
+            self.check(LIST, &file, lent, &asked);
+            self.check(RUN, &file, lent, &packet(rng, &fabric));
+        });
+    }
+
+    /// A length of 0 with NULL: the file is too short; an area too, unless
+    /// there is nothing to write.
+    fn check_empty_slices(&self) {
+        let (wild, start) = (wild_query(2, 16, 9), run_query(1, 16, [0; 4]));
+        for (call, asked) in [(VERDICT, &wild), (LIST, &wild), (RUN, &start)] {
+            for file in [&[], &fabric_f()[..]] {
+                for lent in [0, 4000] {
+                    self.check(call, file, lent, asked);
+                }
+            }
+        }
+        let nothing = wild_query(1, 16, 9);
+        assert_eq!(reference_alone(LIST, &fabric_f(), 0, &nothing).0, 0);
+        self.check(LIST, &fabric_f(), 0, &nothing);
+    }
+
+    /// The most stack.
+    fn check_deepest(&self) {
+        let ring = deep_ring();
+        let file = write(&ring.fabric);
+        self.check(VERDICT, &file, 96, &ring.query);
+        self.check(LIST, &file, 1 << 20, &ring.query);
+    }
+}
+
+#[test]
+fn a_host_in_c() {
+    Caller::c("caller-c").check_all(12_400_000);
+}
+
+#[test]
+fn a_host_in_cpp() {
+    Caller::cpp("caller-cpp").check_all(12_410_000);
+}
+
+#[test]
+fn a_host_in_python() {
+    Caller::python("caller-python").check_all(12_420_000);
+}
+
+/// The header's numbers are the library's, and each host sees which it is.
+#[test]
+fn what_header_and_archive_say_of_themselves() {
+    let (answer, stack) = (4 * raw::VERDICT_WORDS, limits::STACK_BYTES);
+    let expected = format!("{answer} {stack}\n{}\n", raw::library());
+    assert_eq!(Caller::c("caller-says").said(vec![]), expected);
+    let python = Caller::python("caller-python-says");
+    assert_eq!(python.said(vec![]), format!("{}\n", raw::library()));
+    let header = Path::new(env!("CARGO_MANIFEST_DIR")).join("include/mwishovala.h");
+    let header = fs::read_to_string(header).unwrap();
+    for call in raw::CALLS {
+        let declared = format!("\nuint64_t {}(", call.symbol);
+        assert!(header.contains(&declared), "{}", call.symbol);
+    }
+}
