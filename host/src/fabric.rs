@@ -79,4 +79,16 @@ impl<const N: usize> Fabric<N> {
     pub fn link_from(&self, port: u16) -> Option<&Link> {
         self.links.iter().find(|link| link.from == port)
     }
+
+    /// The entries that beat this one, in file order.
+    pub(crate) fn beaters(&self, number: u16) -> impl Iterator<Item = &Entry<N>> {
+        let beaten = self.entries.get(usize::from(number));
+        let entries = self.entries.iter().zip(0..);
+        entries.filter_map(move |(entry, place)| {
+            let beaten = beaten.filter(|beaten| beaten.in_port == entry.in_port)?;
+            let higher = entry.priority > beaten.priority;
+            let earlier = entry.priority == beaten.priority && place < number;
+            (higher || earlier).then_some(entry)
+        })
+    }
 }

@@ -1,5 +1,7 @@
 //! The fields of a header: a name, and which of its bits.
 
+use crate::header::place_of;
+
 /// The widest field: an Ethernet address.
 pub const MOST_FIELD_BITS: usize = 48;
 
@@ -103,9 +105,9 @@ impl Field {
 
     /// This field of so many words; bits of it past the last word are 0.
     pub fn get<const N: usize>(self, words: &[u32; N]) -> u64 {
-        self.bits().fold(0, |value, bit| {
-            let word = words.get(bit / 32).copied().unwrap_or(0);
-            value << 1 | u64::from(word >> (31 - bit % 32) & 1)
+        self.bits().map(place_of).fold(0, |value, (word, mask)| {
+            let set = words.get(word).is_some_and(|word| word & mask != 0);
+            value << 1 | u64::from(set)
         })
     }
 
@@ -115,8 +117,10 @@ impl Field {
         if value > self.full() || self.first + self.width > 32 * N {
             return None;
         }
-        for (place, bit) in self.bits().rev().enumerate() {
-            words[bit / 32] |= ((value >> place & 1) as u32) << (31 - bit % 32);
+        for (place, (word, mask)) in self.bits().rev().map(place_of).enumerate() {
+            if value >> place & 1 == 1 {
+                words[word] |= mask;
+            }
         }
         Some(())
     }

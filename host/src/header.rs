@@ -71,6 +71,49 @@ impl<const N: usize> HeaderSet<N> {
         cared_for && self.meets(other)
     }
 
+    /// The headers in both, if there are some.
+    pub fn intersection(&self, other: &HeaderSet<N>) -> Option<HeaderSet<N>> {
+        self.meets(other).then(|| HeaderSet {
+            care: std::array::from_fn(|word| self.care[word] | other.care[word]),
+            value: std::array::from_fn(|word| self.value[word] | other.value[word]),
+        })
+    }
+
+    /// The headers that this rewrite turns into ones of this set, if there are
+    /// some.
+    pub(crate) fn undone(&self, rewrite: &HeaderSet<N>) -> Option<HeaderSet<N>> {
+        self.meets(rewrite).then(|| HeaderSet {
+            care: std::array::from_fn(|word| self.care[word] & !rewrite.care[word]),
+            value: std::array::from_fn(|word| self.value[word] & !rewrite.care[word]),
+        })
+    }
+
+    /// What this set, as a rewrite, makes of a header.
+    pub(crate) fn rewritten(&self, header: &Header<N>) -> Header<N> {
+        let kept = |word: usize| header.0[word] & !self.care[word];
+        Header(std::array::from_fn(|word| kept(word) | self.value[word]))
+    }
+
+    /// This set without the other one's headers: document 01's parts, in order.
+    pub(crate) fn carved(&self, by: &HeaderSet<N>) -> impl Iterator<Item = HeaderSet<N>> {
+        let (whole, by, meets) = (*self, *by, self.meets(by));
+        let free = (0..32 * N).filter(move |&bit| {
+            let (word, mask) = place_of(bit);
+            meets && by.care[word] & !whole.care[word] & mask != 0
+        });
+        let mut rest = whole;
+        let parts = free.map(move |bit| {
+            let (word, mask) = place_of(bit);
+            let mut part = rest;
+            part.care[word] |= mask;
+            part.value[word] |= !by.value[word] & mask;
+            rest.care[word] |= mask;
+            rest.value[word] |= by.value[word] & mask;
+            part
+        });
+        (!meets).then_some(whole).into_iter().chain(parts)
+    }
+
     /// The lowest header: wild bits 0.
     pub fn lowest(&self) -> Header<N> {
         Header(self.value)
@@ -85,4 +128,9 @@ impl<const N: usize> HeaderSet<N> {
     fn differing(&self, value: &[u32; N], care: &[u32; N]) -> [u32; N] {
         std::array::from_fn(|word| (self.value[word] ^ value[word]) & self.care[word] & care[word])
     }
+}
+
+/// The word of a bit, which is counted from word 0 bit 31, and its mask there.
+pub(crate) fn place_of(bit: usize) -> (usize, u32) {
+    (bit / 32, 1 << (31 - bit % 32))
 }

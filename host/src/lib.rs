@@ -19,6 +19,7 @@ mod explain;
 mod fabric;
 mod field;
 mod finds;
+pub mod frame;
 mod header;
 pub mod limits;
 mod names;
@@ -31,6 +32,7 @@ mod refusal;
 mod run;
 pub mod text;
 mod verdict;
+mod walks;
 mod words;
 
 pub use calls::{accept, run};

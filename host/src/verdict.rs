@@ -1,7 +1,9 @@
 //! A verdict's answer.
 
-use crate::header::Header;
+use crate::fabric::Fabric;
+use crate::header::{Header, HeaderSet};
 use crate::path::{Path, Way};
+use crate::query::Query;
 use crate::refusal::Refusal;
 
 /// Is the target isolated?
@@ -53,5 +55,34 @@ impl<const N: usize> Verdict<N> {
             }
             _ => None,
         }
+    }
+
+    /// The headers of the find that a reached verdict's packet is of, on the
+    /// fabric and by the query that it answers: they all start at its port and
+    /// take its way. They are traced back here anew, along that way alone, and
+    /// are not part of what is proved.
+    pub fn find(&self, fabric: &Fabric<N>, query: &Query<N>) -> Option<HeaderSet<N>> {
+        let Verdict::Reached {
+            header, entries, ..
+        } = self
+        else {
+            return None;
+        };
+        let mut hops = Vec::new();
+        let mut here = *header;
+        for &number in entries.iter() {
+            let entry = fabric.entries.get(usize::from(number))?;
+            hops.push((number, entry, here));
+            here = entry.rewrite.rewritten(&here);
+        }
+        let mut set = query.asked;
+        for (number, entry, here) in hops.into_iter().rev() {
+            set = set.undone(&entry.rewrite)?.intersection(&entry.matching)?;
+            for beater in fabric.beaters(number) {
+                let mut parts = set.carved(&beater.matching);
+                set = parts.find(|part| part.contains(&here))?;
+            }
+        }
+        Some(set)
     }
 }

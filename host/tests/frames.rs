@@ -1,0 +1,213 @@
+//! Packets that hosts can send: why a header is none, and one of the same find
+//! that is.
+
+mod common;
+
+use std::cell::Cell;
+
+use common::to_host;
+use mwishovala::frame::{instead, misfits, sendable_in};
+use mwishovala::{list_growing, run, text, verdict};
+use mwishovala::{Fabric, Fate, Field, Find, Header, HeaderSet, Query, Verdict};
+use reference::file::write;
+use reference::random::{any, cases, query, Rng};
+
+fn lowest(set: &str) -> Header {
+    set.parse::<HeaderSet>().unwrap().lowest()
+}
+
+#[test]
+fn why_a_header_is_not_sent() {
+    let why = [
+        ("nw_proto=tcp,tp_src=65535,tp_dst=80,dl_vlan=4095", vec![]),
+        ("nw_proto=udp,tp_dst=53,dl_vlan=65535,nw_tos=0xfc", vec![]),
+        ("nw_proto=icmp,tp_src=8,tp_dst=255", vec![]),
+        ("nw_proto=47", vec![]),
+        ("any", vec!["nw_proto 0: only a frame made by hand has it"]),
+        (
+            "nw_proto=tcp,dl_vlan=4096",
+            vec!["dl_vlan 4096: a tag has 0 to 4095, and 65535 is no tag"],
+        ),
+        (
+            "nw_proto=tcp,dl_vlan=65534,nw_tos=1",
+            vec![
+                "dl_vlan 65534: a tag has 0 to 4095, and 65535 is no tag",
+                "nw_tos 1: OpenFlow 1.0 reads its two lowest bits as 0",
+            ],
+        ),
+        (
+            "nw_proto=47,tp_src=1,tp_dst=2",
+            vec![
+                "tp_src 1: only tcp, udp and icmp have it",
+                "tp_dst 2: only tcp, udp and icmp have it",
+            ],
+        ),
+        (
+            "nw_proto=icmp,tp_src=256,tp_dst=255",
+            vec!["tp_src 256: icmp has 0 to 255 there"],
+        ),
+    ];
+    for (set, expected) in why {
+        let said: Vec<String> = misfits(&lowest(set))
+            .iter()
+            .map(|m| m.to_string())
+            .collect();
+        assert_eq!(said, expected, "{set}");
+    }
+}
+
+/// The same as the product's, by its fields' values alone.
+fn is_sendable(header: &Header) -> bool {
+    let get = |field| header.get(field);
+    let (source, destination) = (get(Field::TP_SRC), get(Field::TP_DST));
+    let transported = match get(Field::NW_PROTO) {
+        0 => false,
+        6 | 17 => true,
+        1 => source < 256 && destination < 256,
+        _ => source == 0 && destination == 0,
+    };
+    let vlan = get(Field::DL_VLAN);
+    transported && (vlan < 4096 || vlan == 65535) && get(Field::NW_TOS) % 4 == 0
+}
+
+/// A set with few wild bits has one exactly if one of all its headers is one.
+#[test]
+fn one_is_found_if_there_is_one() {
+    let (found, none) = (Cell::new(0), Cell::new(0));
+    cases(12_500_000, 3000, |rng| {
+        let set = nearly_fixed(rng);
+        let outside = rng.once_in(2).then(|| around(rng, &set));
+        let inside = |header: &Header| outside.is_some_and(|set| set.contains(header));
+        let mut all = headers_of(&set).into_iter();
+        let expected = all.any(|header| is_sendable(&header) && !inside(&header));
+        match sendable_in(&set, outside.as_ref()) {
+            Some(header) => {
+                assert!(expected && set.contains(&header) && !inside(&header));
+                assert!(is_sendable(&header) && misfits(&header).is_empty());
+                found.set(found.get() + 1);
+            }
+            None => {
+                assert!(!expected, "{set}, outside {outside:?}");
+                none.set(none.get() + 1);
+            }
+        }
+    });
+    let replayed = found.get() + none.get() <= 1;
+    assert!(replayed || found.get() > 300 && none.get() > 300);
+}
+
+/// Values that are near the edge of what can be sent, and up to ten wild bits.
+fn nearly_fixed(rng: &mut Rng) -> HeaderSet {
+    let any = rng.draw() as u32;
+    let ports = rng.one_of([0, 80, 0x0050_0000, 0x0100_00ff, any]);
+    let vlan = rng.one_of([0, 4095, 4096, 65535, 65534]);
+    let (tos, protocol) = (rng.one_of([0, 4, 1, 2]), rng.one_of([0, 1, 6, 17, 47]));
+    let mut set = HeaderSet::only(Header([1, 2, ports, vlan << 16 | tos << 8 | protocol]));
+    for _ in 0..rng.below(11) {
+        let (word, bit) = (rng.between(2, 3), rng.below(32));
+        set.care[word] &= !(1 << bit);
+        set.value[word] &= set.care[word];
+    }
+    set
+}
+
+/// A set that has some of this one's headers, or all.
+fn around(rng: &mut Rng, set: &HeaderSet) -> HeaderSet {
+    let keep = |rng: &mut Rng| rng.draw() as u32 | rng.draw() as u32;
+    let mut care = set.care.map(|care| care & keep(rng));
+    let mut value = std::array::from_fn(|word| set.value[word] & care[word]);
+    if rng.once_in(2) {
+        let (word, bit) = (rng.between(2, 3), rng.below(32));
+        care[word] |= 1 << bit;
+        value[word] |= rng.draw() as u32 & 1 << bit;
+    }
+    HeaderSet { care, value }
+}
+
+fn headers_of(set: &HeaderSet) -> Vec<Header> {
+    let wild: Vec<(usize, u32)> = (0..128)
+        .map(|bit| (bit / 32, 1 << (bit % 32)))
+        .filter(|(word, mask)| set.care[*word] & mask == 0)
+        .collect();
+    let with = |choice: usize| {
+        let mut words = set.value;
+        for (place, (word, mask)) in wild.iter().enumerate() {
+            words[*word] |= if choice >> place & 1 == 1 { *mask } else { 0 };
+        }
+        Header(words)
+    };
+    (0..1 << wild.len()).map(with).collect()
+}
+
+/// The find of a verdict's packet is the list's, and what can be sent of it
+/// arrives by the same way and is foreign.
+#[test]
+fn finds_and_what_to_send_instead() {
+    let sent = Cell::new(0);
+    cases(12_600_000, 4000, |rng| {
+        let made = any(rng);
+        let file = write(&made);
+        let asked = to_host(&reference::Query {
+            budget: 20_000,
+            ..query(rng, &made, 1)
+        });
+        let Ok(Verdict::Reached {
+            port,
+            header,
+            entries,
+            ..
+        }) = verdict(&file, &asked)
+        else {
+            return;
+        };
+        let reached = verdict(&file, &asked).unwrap();
+        let fabric = Fabric::read(&file).unwrap();
+        let set = reached.find(&fabric, &asked).expect("it has a find");
+        assert!(set.contains(&header));
+        let mut area = Vec::new();
+        if let Ok(mut finds) = list_growing(&file, &mut area, 1 << 22, &asked) {
+            let same = |find: &Find| find.port == port && find.entries == entries;
+            assert!(finds.any(|find| same(&find) && find.set == set));
+        }
+        if let Some(header) = instead(&file, &asked, &reached) {
+            assert!(set.contains(&header) && is_sendable(&header));
+            let way = run(&file, port.into(), header, asked.hops).unwrap();
+            assert_eq!((way.fate, u32::from(way.port)), (Fate::Left, asked.port));
+            assert_eq!(way.entries, entries);
+            let (edge, target) = (fabric.edge(port).unwrap(), asked.port as u16);
+            let own = edge.group == fabric.edge(target).unwrap().group;
+            assert!(!own || !edge.admitted.contains(&header));
+            sent.set(sent.get() + 1);
+        }
+    });
+    let replayed = std::env::var_os("SEED").is_some();
+    assert!(replayed || sent.get() > 200, "{}", sent.get());
+}
+
+/// In its own group a packet has to be outside what is admitted; where all that
+/// is left can't be sent, there is none.
+#[test]
+fn own_groups_packets() {
+    let of = |admitted: &str| {
+        let file = text::pack(&format!(
+            "edge 1 group 7 admits {admitted}\n\
+             edge 2 group 7 admits any\n\
+             entry 1 -> 2 priority 1 match nw_proto=tcp,tp_dst=0x0000/0xff00\n"
+        ))
+        .unwrap();
+        let asked = Query::all_wild(2);
+        let reached = verdict(&file, &asked).unwrap();
+        instead(&file, &asked, &reached).map(|header| header.to_string())
+    };
+    assert_eq!(
+        of("tp_dst=0x0000/0x0080").unwrap(),
+        "nw_src=0.0.0.0,nw_dst=0.0.0.0,tp_src=0,tp_dst=128,dl_vlan=65535,nw_tos=0,nw_proto=6"
+    );
+    assert_eq!(of("nw_tos=0x00/0x01"), None);
+    assert_eq!(instead(&[], &Query::all_wild(2), &isolated()), None);
+}
+
+fn isolated() -> Verdict {
+    let file = text::pack("edge 1 group 7 admits any").unwrap();
+    verdict(&file, &Query::all_wild(1)).unwrap()
+}
