@@ -16,8 +16,9 @@ pub struct Query<const N: usize = 4> {
     pub asked: HeaderSet<N>,
 }
 
-/// A budget that a person hardly waits for.
-pub const USUAL_BUDGET: u32 = 10_000_000;
+/// A budget that real fabrics stay within, and that a person waits for: half a
+/// minute if all of it is used.
+pub const USUAL_BUDGET: u32 = 1_000_000_000;
 
 /// The numbers of a query on headers of four words: words 1 to 11.
 pub const QUERY_NUMBERS: usize = 11;

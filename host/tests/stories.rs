@@ -7,6 +7,7 @@ use std::fs;
 use std::path::Path;
 
 use command::{folder, mwishovala};
+use mwishovala::{text, Fabric, HeaderSet};
 
 fn tell(story: &str) {
     let stories = Path::new(env!("CARGO_MANIFEST_DIR")).join("stories");
@@ -61,6 +62,27 @@ fn a_beater_at_the_exit() {
 #[test]
 fn forward_again() {
     tell("trap-equality");
+}
+
+/// Without a protocol that has ports, a switch reads a match on a port as any.
+#[test]
+fn ports_have_a_protocol() {
+    let stories = Path::new(env!("CARGO_MANIFEST_DIR")).join("stories");
+    let mut with_ports = 0;
+    for story in fs::read_dir(stories).unwrap() {
+        let path = story.unwrap().path();
+        if path.extension().is_none_or(|extension| extension != "txt") {
+            continue;
+        }
+        let file = text::pack(&fs::read_to_string(&path).unwrap()).unwrap();
+        for entry in Fabric::read(&file).unwrap().entries {
+            let on_ports = entry.matching.care[2] | entry.rewrite.care[2] != 0;
+            let tcp: HeaderSet = "nw_proto=tcp".parse().unwrap();
+            assert!(!on_ports || entry.matching.is_within(&tcp), "{path:?}");
+            with_ports += u32::from(on_ports);
+        }
+    }
+    assert_eq!(with_ports, 11);
 }
 
 /// No story is left out above.

@@ -5,6 +5,7 @@ mod common;
 use std::cell::Cell;
 
 use common::{agreed, checks, VERDICT};
+use mwishovala::{verdict, Verdict};
 use reference::examples::{fabric_f, wild_query};
 use reference::file::write;
 use reference::random::{any, campus, cases, deep_ring, query, twenty_denies, Rng};
@@ -122,4 +123,24 @@ fn checked_examples() {
     assert_eq!(of(1, 1, 0), Ok(vec![0; 24]));
     assert_eq!(of(2, 17, 2), Err((9, 0)));
     assert!(of(2, 16, 2).is_ok());
+}
+
+/// An all-wild allow under 24 denies of two bits each takes 16 million units;
+/// real fabrics have taken ten times as many.
+#[test]
+fn the_usual_budget() {
+    let mut said = String::from("edge 1 group 7 admits any\nedge 2 group 7 admits any\n");
+    for field in ["nw_src", "nw_dst"] {
+        for pair in 0..12 {
+            let bits = 3_u32 << (2 * pair);
+            said += &format!("entry 1 -> drop priority 2 match {field}=0x{bits:x}/0x{bits:x}\n");
+        }
+    }
+    said += "entry 1 -> 2 priority 1 match any\n";
+    let file = mwishovala::text::pack(&said).unwrap();
+    let asked = mwishovala::Query::all_wild(2);
+    let Ok(Verdict::Isolated { units, .. }) = verdict(&file, &asked) else {
+        panic!("it is isolated");
+    };
+    assert_eq!(units, 1 << 24);
 }

@@ -22,7 +22,7 @@ admits.
   --asked SET    only packets that have these headers when they get out
                  (default: any)
   --hops N       the most hops, 1 to 16 (default: 16)
-  --budget N     the most units of work (default: 10000000)
+  --budget N     the most units of work (default: 1000000000)
   --jobs N       audit: how many targets at a time (default: all cores)
   --json         the answer for programs
   --help         this text
