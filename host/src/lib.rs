@@ -9,7 +9,7 @@
 //!
 //! No function here panics, whatever bytes it is given.
 
-#![deny(unsafe_code, missing_debug_implementations)]
+#![deny(unsafe_code, missing_debug_implementations, missing_docs)]
 #![warn(unreachable_pub)]
 
 mod calls;

@@ -7,6 +7,7 @@ mod build;
 #[path = "common/command.rs"]
 mod command;
 
+use std::ffi::OsStr;
 use std::fs;
 use std::path::Path;
 use std::process::Command;
@@ -42,7 +43,7 @@ fn another_versions_archive_is_refused() {
 }
 
 /// What `tools/archive` names: no commit where there is no checkout of its own,
-/// else the commit, and what isn't in it.
+/// else the commit, and that the tree has more.
 #[test]
 fn the_commit_is_named() {
     let folder = folder("archive");
@@ -50,42 +51,47 @@ fn the_commit_is_named() {
     for place in ["tools", "host", "target/staticlib"] {
         fs::create_dir_all(folder.join(place)).unwrap();
     }
-    for file in [
-        "tools/archive",
-        "host/Cargo.toml",
-        "target/staticlib/libfabric.a",
-    ] {
+    for file in ["tools/archive", "host/Cargo.toml"] {
         fs::copy(project.join(file), folder.join(file)).unwrap();
     }
+    let library = Path::new(env!("MWISHOVALA_LIB_DIR")).join("libmwishovala.a");
+    fs::copy(library, folder.join("target/staticlib/libfabric.a")).unwrap();
     assert_eq!(made(&folder), "unknown");
     fs::write(folder.join(".gitignore"), "target/\n").unwrap();
-    git(&folder, &["init", "-q"]);
+    git(&folder, "init -q");
     assert_eq!(made(&folder), "unknown");
-    git(&folder, &["add", "."]);
-    let me = ["-c", "user.name=test", "-c", "user.email=test"];
+    git(&folder, "add .");
     git(
         &folder,
-        &[&me[..], &["commit", "-qm", "all of it"]].concat(),
+        "-c user.name=a -c user.email=b -c commit.gpgsign=false commit -qm all",
     );
-    let commit = git(&folder, &["rev-parse", "--short=12", "HEAD"]);
+    let commit = git(&folder, "rev-parse --short=12 HEAD");
     assert_eq!(made(&folder), commit.trim_end());
     fs::write(folder.join("host/further"), "").unwrap();
     assert_eq!(made(&folder), format!("{}-dirty", commit.trim_end()));
 }
 
-fn git(folder: &Path, arguments: &[&str]) -> String {
-    let output = Command::new("git")
-        .args(arguments)
-        .current_dir(folder)
-        .output();
+/// A program that is told of no other checkout.
+fn in_its_checkout(program: impl AsRef<OsStr>, folder: &Path) -> Command {
+    let mut command = Command::new(program);
+    for told in ["GIT_DIR", "GIT_WORK_TREE", "GIT_INDEX_FILE"] {
+        command.env_remove(told);
+    }
+    command.current_dir(folder);
+    command
+}
+
+fn git(folder: &Path, arguments: &str) -> String {
+    let mut git = in_its_checkout("git", folder);
+    let output = git.args(arguments.split(' ')).output();
     let output = output.expect("this test needs git, which can't be run");
-    assert!(output.status.success(), "git {arguments:?}");
+    assert!(output.status.success(), "git {arguments}");
     String::from_utf8(output.stdout).unwrap()
 }
 
 /// Makes the archive there, and gives the commit that it names.
 fn made(folder: &Path) -> String {
-    let status = Command::new(folder.join("tools/archive")).status();
+    let status = in_its_checkout(folder.join("tools/archive"), folder).status();
     assert!(status.expect("tools/archive runs").success());
     let archive = fs::read(folder.join("target/staticlib/libmwishovala.a")).unwrap();
     build::check(&archive, VERSION).unwrap();

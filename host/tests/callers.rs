@@ -147,7 +147,7 @@ impl Caller {
         let ring = deep_ring();
         let file = write(&ring.fabric);
         self.check(VERDICT, &file, 96, &ring.query);
-        self.check(LIST, &file, 1 << 20, &ring.query);
+        self.check(LIST, &file, 1 << 15, &ring.query);
     }
 }
 

@@ -298,7 +298,10 @@ fn damaged_texts() {
 /// Texts of words that stand in fabrics, and of others, in any order.
 #[test]
 fn texts_at_random() {
-    const WORDS: [&str; 24] = [
+    const WORDS: [&str; 27] = [
+        "name",
+        "switch",
+        "leaf-1",
         "edge",
         "link",
         "entry",

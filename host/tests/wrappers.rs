@@ -3,6 +3,7 @@
 mod common;
 
 use common::{product_alone, RUN};
+use mwishovala::text::{pack, show};
 use mwishovala::{run, Fabric, Fate, Header};
 use reference::file::{read, to_le_words, write};
 use reference::random::{any, cases, damage, inflict, packet, Damage};
@@ -34,7 +35,10 @@ fn files_damaged_more_than_once() {
 /// Accepted and read as the reference reads it, or refused with a reason.
 fn check_accept(file: &[u8]) {
     match (Fabric::read(file), read(file)) {
-        (Ok(fabric), Ok(_)) => assert_eq!(fabric.to_bytes().unwrap(), file),
+        (Ok(fabric), Ok(_)) => {
+            assert_eq!(fabric.to_bytes().unwrap(), file);
+            assert_eq!(pack(&show(&fabric)).unwrap(), file);
+        }
         (Err(refusal), Err(expected)) => {
             assert_eq!(refusal.question.number(), expected.number);
             assert_eq!(refusal.place, expected.place as u64);
