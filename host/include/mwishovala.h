@@ -9,9 +9,9 @@
  * that got a no, 1 to 13, the place is the number of the record's first word in
  * the file or 0, and every byte of the area stays.
  *
- * Stack: a call needs up to FABRIC_STACK_BYTES below the frame that makes it,
- * 408 KiB of them measured for the deepest fabric that is accepted; a thread
- * with less is killed. A run needs 48 KiB.
+ * Stack: give a thread that makes calls FABRIC_STACK_BYTES at least. 408 KiB of
+ * them were measured for the deepest fabric that is accepted, 48 KiB for a run,
+ * and the rest is margin. Where a call runs out of stack the process is killed.
  * Threads: the library has no state. Any number of calls may be made at once,
  * also on the same file, but each on an area of its own.
  * Length 0: the pointer is then not used, and may be NULL. With any other length
@@ -38,7 +38,7 @@ extern "C" {
 /* The bytes that a verdict or a run needs: 24 words. */
 #define FABRIC_ANSWER_BYTES 96
 
-/* The stack that a call needs, with margin. */
+/* The least stack of a thread that makes calls. */
 #define FABRIC_STACK_BYTES (512 * 1024)
 
 /* Which library this is: "mwishovala 0.1.0, commit 0123456789ab", with -dirty

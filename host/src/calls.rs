@@ -30,9 +30,15 @@ pub fn accept(file: &[u8]) -> Result<(), Refusal> {
         ..Query::packet(0, Header::default())
     };
     let ask = |area: &mut [u8]| raw::run(file, area, no_hops.numbers());
-    match make(file, &no_hops, &mut [], ask) {
-        Err(refusal) if refusal.question != Question::Hops => Err(refusal),
-        _ => Ok(()),
+    accepted(make(file, &no_hops, &mut [], ask))
+}
+
+/// A no to the hop limit alone says that the file is accepted.
+fn accepted(asked: Result<usize, Refusal>) -> Result<(), Refusal> {
+    match asked {
+        Err(refusal) if refusal.question == Question::Hops => Ok(()),
+        Err(refusal) => Err(refusal),
+        Ok(_) => Err(Refusal::unknown()),
     }
 }
 

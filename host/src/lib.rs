@@ -7,7 +7,8 @@
 //! packet through. The answers are computed by code that is proved; what
 //! stands here makes the calls and reads their words.
 //!
-//! No function here panics, whatever bytes it is given.
+//! No function here panics, whatever bytes it is given. A thread that makes a
+//! call needs [`limits::STACK_BYTES`] of stack at least.
 
 #![deny(unsafe_code, missing_debug_implementations, missing_docs)]
 #![warn(unreachable_pub)]

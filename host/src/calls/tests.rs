@@ -1,6 +1,6 @@
 //! Answers that the proved library doesn't give are none.
 
-use super::{answer, make};
+use super::{accepted, answer, make};
 use crate::limits::MOST_HOPS;
 use crate::query::Query;
 use crate::raw;
@@ -36,6 +36,15 @@ fn no_number_but_0_is_a_success() {
         answered(26, [0; 24]).unwrap_err().question,
         Question::Unknown(_)
     ));
+}
+
+/// A file is accepted by the one no that comes after its own questions.
+#[test]
+fn accepted_by_the_hop_limit_alone() {
+    for number in 0..=255 {
+        let asked = make(&[], &Query::all_wild(1), &mut [], |_| number);
+        assert_eq!(accepted(asked).is_ok(), number == 9, "{number}");
+    }
 }
 
 /// A success with another number of words is none.
