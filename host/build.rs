@@ -17,7 +17,9 @@ fn main() {
         None => PathBuf::from("../target/staticlib"),
     };
     let archive = folder.join("libmwishovala.a");
-    println!("cargo::rerun-if-changed={}", archive.display());
+    for library in [&archive, &proved_beside(&archive)] {
+        println!("cargo::rerun-if-changed={}", library.display());
+    }
     match found(&archive) {
         Ok(folder) => {
             println!("cargo::rustc-link-search=native={}", folder.display());
@@ -39,8 +41,42 @@ fn main() {
 fn found(archive: &Path) -> Result<PathBuf, String> {
     let bytes = fs::read(archive).map_err(|error| error.to_string())?;
     check(&bytes, env!("CARGO_PKG_VERSION"))?;
+    // Who has the archive alone has nothing that it could be older than.
+    if let Ok(proved) = fs::read(proved_beside(archive)) {
+        check_made_of(&bytes, &proved)?;
+    }
     let whole = archive.canonicalize().map_err(|error| error.to_string())?;
     Ok(whole.parent().unwrap_or(&whole).to_path_buf())
+}
+
+/// The library as it was proved, of which the archive is made.
+fn proved_beside(archive: &Path) -> PathBuf {
+    archive.with_file_name("libfabric.a")
+}
+
+/// Whether the archive has all that is in the other one, and not an older one's.
+pub fn check_made_of(archive: &[u8], proved: &[u8]) -> Result<(), String> {
+    let has = |object: &[u8]| archive.windows(object.len()).any(|bytes| bytes == object);
+    match members(proved).all(has) {
+        true => Ok(()),
+        false => Err("it isn't made of the libfabric.a beside it".into()),
+    }
+}
+
+/// What an archive holds, but for its index, which has no name.
+fn members(archive: &[u8]) -> impl Iterator<Item = &[u8]> {
+    const MAGIC: usize = 8;
+    const HEAD: usize = 60;
+    let mut rest = archive.get(MAGIC..).unwrap_or_default();
+    std::iter::from_fn(move || {
+        let (head, behind) = rest.split_at_checked(HEAD)?;
+        let length: usize = str::from_utf8(&head[48..58]).ok()?.trim().parse().ok()?;
+        let member = behind.get(..length)?;
+        rest = behind.get(length + length % 2..).unwrap_or_default();
+        Some((head, member))
+    })
+    .filter(|(head, member)| head[0] != b'/' && !member.is_empty())
+    .map(|(_, member)| member)
 }
 
 /// Whether the archive with these bytes names this version.

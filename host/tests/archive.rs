@@ -42,6 +42,25 @@ fn another_versions_archive_is_refused() {
     assert_eq!(check("libfabric"), Err("it names no version".into()));
 }
 
+/// An archive that was made before the library was proved anew isn't linked.
+#[test]
+fn an_older_archive_is_refused() {
+    let member = |name: &str, bytes: &str| {
+        let padding = if bytes.len() % 2 == 1 { "\n" } else { "" };
+        format!("{name:<48}{:<10}`\n{bytes}{padding}", bytes.len())
+    };
+    let archive = |members: &[String]| ["!<arch>\n", &members.concat()].concat();
+    let proved = archive(&[member("/", "an index"), member("fabric.o/", "code")]);
+    let (code, version) = (member("fabric.o/", "code"), member("version.o/", "1"));
+    let other = [member("/", "its index"), version.clone(), code];
+    let check = |archive: &str| build::check_made_of(archive.as_bytes(), proved.as_bytes());
+    assert_eq!(check(&archive(&other)), Ok(()));
+    let older = [version, member("fabric.o/", "older")];
+    let refused = Err("it isn't made of the libfabric.a beside it".into());
+    assert_eq!(check(&archive(&older)), refused);
+    assert_eq!(check("!<arch>\n"), refused);
+}
+
 /// What `tools/archive` names: no commit where there is no checkout of its own,
 /// else the commit, and that the tree has more.
 #[test]
