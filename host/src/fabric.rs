@@ -83,11 +83,11 @@ impl<const N: usize> Fabric<N> {
     /// The entries that beat this one, in file order.
     pub(crate) fn beaters(&self, number: u16) -> impl Iterator<Item = &Entry<N>> {
         let beaten = self.entries.get(usize::from(number));
-        let entries = self.entries.iter().zip(0..);
-        entries.filter_map(move |(entry, place)| {
+        let entries = self.entries.iter().enumerate();
+        entries.filter_map(move |(place, entry)| {
             let beaten = beaten.filter(|beaten| beaten.in_port == entry.in_port)?;
             let higher = entry.priority > beaten.priority;
-            let earlier = entry.priority == beaten.priority && place < number;
+            let earlier = entry.priority == beaten.priority && place < usize::from(number);
             (higher || earlier).then_some(entry)
         })
     }
