@@ -6,15 +6,16 @@ mod describe;
 mod dot;
 mod files;
 mod foreign;
-mod help;
+mod gate;
 mod json;
 mod list;
+mod manual;
 mod run;
 mod table;
 mod verdict;
 
 use std::ffi::OsString;
-use std::io::{self, Write};
+use std::io::{self, BufWriter, Write};
 use std::process::ExitCode;
 
 use arguments::Order;
@@ -26,25 +27,11 @@ use crate::refusal::{Question, Refusal};
 const ISOLATED: u8 = 0;
 const REACHED: u8 = 1;
 const NO_ANSWER: u8 = 2;
+/// The status of a command that judges nothing.
+const DONE: u8 = 0;
 
-/// What goes to standard output, and the status.
-struct Outcome {
-    output: Vec<u8>,
-    status: u8,
-}
-
-impl Outcome {
-    fn text(text: String, status: u8) -> Outcome {
-        Outcome {
-            output: text.into_bytes(),
-            status,
-        }
-    }
-
-    fn json(value: Json, status: u8) -> Outcome {
-        Outcome::text(format!("{value}\n"), status)
-    }
-}
+/// Where a command writes its answer.
+type Output<'a> = &'a mut dyn Write;
 
 /// Why there is no answer.
 enum Failure {
@@ -52,49 +39,88 @@ enum Failure {
     Error(String),
     /// A question got a no; with the file that was asked about.
     Refused(String, Refusal),
+    /// The answer can't be written to standard output.
+    Output(io::Error),
 }
 
-/// Does what these arguments say.
-pub fn main(arguments: impl Iterator<Item = OsString>) -> ExitCode {
-    let arguments: Vec<OsString> = arguments.collect();
-    let json = arguments.iter().any(|argument| argument == "--json");
-    let outcome = arguments::parse(arguments)
-        .and_then(perform)
-        .unwrap_or_else(|failure| report(failure, json));
-    let mut out = io::stdout().lock();
-    match out.write_all(&outcome.output).and_then(|()| out.flush()) {
-        Ok(()) => ExitCode::from(outcome.status),
-        Err(_) => ExitCode::from(NO_ANSWER),
+/// Only what is written to an `Output` fails with a plain `io::Error`.
+impl From<io::Error> for Failure {
+    fn from(error: io::Error) -> Failure {
+        Failure::Output(error)
     }
 }
 
-fn perform(order: Order) -> Result<Outcome, Failure> {
+/// Does what these words say. A standard output that was closed from the start
+/// is told, since nothing can be written there.
+pub fn main(words: impl Iterator<Item = OsString>, output_is_open: bool) -> ExitCode {
+    let words: Vec<OsString> = words.collect();
+    let json = arguments::wants_json(&words);
+    let mut out = BufWriter::new(io::stdout().lock());
+    let answered = match output_is_open {
+        true => answer(words, &mut out),
+        false => Err(Failure::Output(io::Error::other("it is closed"))),
+    };
+    let status = answered.unwrap_or_else(|failure| report(failure, json, &mut out));
+    ExitCode::from(status)
+}
+
+/// The status, once all is written.
+fn answer(words: Vec<OsString>, out: Output) -> Result<u8, Failure> {
+    let status = perform(arguments::parse(words)?, out)?;
+    out.flush()?;
+    Ok(status)
+}
+
+fn perform(order: Order, out: Output) -> Result<u8, Failure> {
     match order {
-        Order::Help(text) => Ok(Outcome::text(text.into(), 0)),
-        Order::Verdict(asked) => verdict::verdict(&asked),
-        Order::List(asked) => list::list(&asked),
-        Order::Run(packet) => run::run(&packet),
-        Order::Audit(audit) => audit::audit(&audit),
-        Order::Show(file) => files::show(&file),
-        Order::Pack { text, file } => files::pack(&text, &file),
-        Order::Dot(picture) => dot::dot(&picture),
+        Order::Print(text, status) => {
+            out.write_all(text.as_bytes())?;
+            Ok(status)
+        }
+        Order::Verdict(asked) => verdict::verdict(&asked, out),
+        Order::Gate(gate) => gate::gate(&gate, out),
+        Order::List(asked) => list::list(&asked, out),
+        Order::Run(packet) => run::run(&packet, out),
+        Order::Audit(audit) => audit::audit(&audit, out),
+        Order::Show(file) => files::show(&file, out),
+        Order::Pack { text, file } => files::pack(&text, &file, out),
+        Order::Dot(picture) => dot::dot(&picture, out),
     }
 }
 
-/// A failure goes to standard error; a refusal, if JSON is asked for, to
-/// standard output.
-fn report(failure: Failure, json: bool) -> Outcome {
-    let message = match failure {
-        Failure::Refused(_, refusal) if json => {
-            return Outcome::json(json::refused(&refusal), NO_ANSWER);
-        }
+/// A failure goes to standard error; if JSON is asked for, to standard output.
+fn report(failure: Failure, json: bool, out: Output) -> u8 {
+    let why = match &failure {
+        Failure::Refused(_, refusal) => Some(json::refused(refusal)),
+        Failure::Error(message) => Some(json::failed(message)),
+        Failure::Output(_) => None,
+    };
+    let why = why
+        .filter(|_| json)
+        .map(|why| Json::Object(vec![("refused", why)]));
+    let message = match (why, failure) {
+        (Some(why), _) => match writeln!(out, "{why}").and_then(|()| out.flush()) {
+            Ok(()) => return NO_ANSWER,
+            Err(error) => unwritten(&error),
+        },
+        (None, failure) => in_words(failure),
+    };
+    // Standard error may be closed; the status says it all the same.
+    let _ = writeln!(io::stderr(), "mwishovala: {message}");
+    NO_ANSWER
+}
+
+fn in_words(failure: Failure) -> String {
+    match failure {
         Failure::Refused(file, refusal) if refusal.question == Question::Budget => {
             format!("{file}: {refusal}; --budget gives it more")
         }
         Failure::Refused(file, refusal) => format!("{file}: {refusal}"),
         Failure::Error(message) => message,
-    };
-    // Standard error may be closed; the status says it all the same.
-    let _ = writeln!(io::stderr(), "mwishovala: {message}");
-    Outcome::text(String::new(), NO_ANSWER)
+        Failure::Output(error) => unwritten(&error),
+    }
+}
+
+fn unwritten(error: &io::Error) -> String {
+    format!("standard output: {error}")
 }

@@ -16,6 +16,7 @@
 mod calls;
 #[doc(hidden)]
 pub mod command;
+mod digest;
 mod explain;
 mod fabric;
 mod field;
@@ -38,6 +39,7 @@ mod words;
 
 pub use calls::{accept, run};
 pub use calls::{list, list_growing, verdict};
+pub use digest::Digest;
 pub use fabric::Fabric;
 pub use field::{Field, MOST_FIELD_BITS};
 pub use finds::{Find, Finds};

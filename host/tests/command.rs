@@ -37,8 +37,6 @@ fn the_status_says_it() {
         ("dot f.fabric", 0),
         ("dot f.fabric 2", 0),
         ("dot f.fabric 5", 2),
-        ("--help", 0),
-        ("verdict --help", 0),
     ] {
         let ran = ran(&folder, line);
         assert_eq!(ran.status, status, "{line}");
@@ -51,6 +49,7 @@ fn bad_use_is_told() {
     let folder = with_f("bad-use");
     for (line, said) in [
         ("", "there is no command ''"),
+        ("-j", "there is no command '-j'"),
         ("vrdict f.fabric 2", "there is no command 'vrdict'"),
         ("verdict", "a fabric file is missing"),
         ("verdict f.fabric", "a target port is missing"),
@@ -66,7 +65,7 @@ fn bad_use_is_told() {
         ("verdict f.fabric 2 --hops x", "--hops: 'x' is no number"),
         (
             "verdict f.fabric 2 --jobs 2",
-            "--jobs is no option of this command",
+            "--jobs is no option of verdict",
         ),
         (
             "verdict f.fabric 2 --asked tp_dst=x",
@@ -78,12 +77,9 @@ fn bad_use_is_told() {
         ),
         (
             "run f.fabric 1 any --budget 3",
-            "--budget is no option of this command",
+            "--budget is no option of run",
         ),
-        (
-            "show f.fabric --json",
-            "--json is no option of this command",
-        ),
+        ("show f.fabric --jobs 1", "--jobs is no option of show"),
     ] {
         let ran = ran(&folder, line);
         let expected = format!("mwishovala: {said}; see mwishovala --help\n");
@@ -138,9 +134,9 @@ fn refusals_are_told() {
 #[test]
 fn the_help_has_every_command_and_option() {
     let help = ran(&folder("help"), "--help");
-    let options = "--asked --hops --budget --jobs --json --help".split(' ');
+    let options = "--asked --hops --budget --jobs --json --help --version".split(' ');
     let words = COMMANDS.into_iter().chain(options);
-    for word in words.chain(["Exit status"]) {
+    for word in words.chain(["Exit status", "IPv4"]) {
         assert!(help.text().contains(word), "{word}");
     }
 }

@@ -66,7 +66,8 @@ fn damaged_files() {
     });
 }
 
-/// Whatever the arguments, there is an end and a status.
+/// Whatever the arguments, there is an end and a status; and 0 is 'isolated' for
+/// the commands that judge, or help that stands alone.
 #[test]
 fn arguments_at_random() {
     let folder = with_f("arguments");
@@ -84,21 +85,45 @@ fn arguments_at_random() {
         "--jobs",
         "-",
         "--",
+        "-h",
+        "--help",
+        "--version",
+        "--json=1",
+        "--hops=3",
         "é",
         "",
     ];
     let words = [&COMMANDS[..], &others].concat();
-    cases(9_300_000, 300, |rng: &mut Rng| {
+    cases(9_300_000, 1500, |rng: &mut Rng| {
         let number = rng.between(0, 6);
         let mut arguments: Vec<&str> = (0..number)
             .filter_map(|_| rng.pick(&words).copied())
             .collect();
         if rng.once_in(2) {
-            arguments.insert(0, rng.one_of(["verdict", "list", "run", "audit", "dot"]));
+            arguments.insert(0, rng.one_of(["verdict", "gate", "audit", "run", "dot"]));
         }
         // Only the files of this test are written to.
         if !arguments.contains(&"pack") {
-            let _ = mwishovala(&folder, &arguments, F.as_bytes());
+            let ran = mwishovala(&folder, &arguments, F.as_bytes());
+            let judges = matches!(arguments.first(), Some(&("verdict" | "gate" | "audit")));
+            if judges && ran.status == 0 {
+                assert!(is_isolated(&arguments, ran.text()), "{arguments:?}");
+            }
         }
     });
+}
+
+/// Whether this is the answer 'isolated', or help that stands alone.
+fn is_isolated(arguments: &[&str], answer: &str) -> bool {
+    match arguments {
+        ["verdict" | "audit", "--help" | "-h"] => true,
+        ["audit", ..] => answer.contains(" 0 reached, 0 refused\n") || no_row_but(answer),
+        _ => answer.starts_with("isolated") || answer.contains("\"verdict\":\"isolated\""),
+    }
+}
+
+/// Whether an audit's JSON has 'isolated' in every row.
+fn no_row_but(answer: &str) -> bool {
+    let rows = answer.matches("\"target\":").count();
+    is_json(answer) && rows > 0 && answer.matches("\"verdict\":\"isolated\"").count() == rows
 }

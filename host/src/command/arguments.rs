@@ -1,24 +1,31 @@
 //! What the command is told.
 
+mod given;
+
 use std::ffi::{OsStr, OsString};
 use std::thread::available_parallelism;
 
 use super::files::Source;
-use super::help::HELP;
-use super::Failure;
+use super::manual::{self, Command, Shell};
+use super::{Failure, DONE, NO_ANSWER};
 use crate::header::{Header, HeaderSet};
 use crate::limits::MOST_HOPS;
 use crate::query::{Query, USUAL_BUDGET};
-use crate::text::parse_header;
+use given::Given;
 
 pub(super) enum Order {
-    Help(&'static str),
+    /// The help, the version, the manual page or completions; and the status.
+    Print(String, u8),
     Verdict(Asked),
+    Gate(Gate),
     List(Asked),
     Run(Packet),
     Audit(Audit),
     Show(Source),
-    Pack { text: Source, file: OsString },
+    Pack {
+        text: Source,
+        file: OsString,
+    },
     Dot(Picture),
 }
 
@@ -27,6 +34,13 @@ pub(super) struct Asked {
     pub(super) file: Source,
     pub(super) query: Query,
     pub(super) json: bool,
+}
+
+/// Nothing here can narrow the question.
+pub(super) struct Gate {
+    pub(super) file: Source,
+    pub(super) target: u32,
+    pub(super) budget: u32,
 }
 
 pub(super) struct Packet {
@@ -50,206 +64,174 @@ pub(super) struct Picture {
     pub(super) query: Option<Query>,
 }
 
-pub(super) fn parse(arguments: Vec<OsString>) -> Result<Order, Failure> {
-    let wants_help = |argument: &OsString| argument == "--help" || argument == "-h";
-    if arguments.iter().any(wants_help) {
-        return Ok(Order::Help(HELP));
+/// More targets than these aren't asked about at a time.
+const MOST_JOBS: u32 = 64;
+
+/// Whether the answer, or why there is none, is for a program.
+pub(super) fn wants_json(words: &[OsString]) -> bool {
+    let mut before = words.iter().take_while(|word| *word != "--");
+    before.any(|word| word == "--json")
+}
+
+/// The help and the version stand alone: a word too many is never passed over,
+/// since a status of 0 would then say what nobody asked.
+pub(super) fn parse(words: Vec<OsString>) -> Result<Order, Failure> {
+    let texts: Vec<Option<&str>> = words.iter().map(|word| word.to_str()).collect();
+    match texts[..] {
+        [] => return Err(wrong("a command is missing")),
+        [Some("--help" | "-h")] => return Ok(print(manual::overview())),
+        [Some("--version")] => return Ok(print(format!("mwishovala {}\n", manual::VERSION))),
+        [Some(name), Some("--help" | "-h")] => {
+            return command_named(name).map(help_after);
+        }
+        [Some(alone @ ("--help" | "-h" | "--version")), ..] => {
+            return Err(wrong(format!("{alone} stands alone")));
+        }
+        _ => (),
     }
-    let mut given = Given::sort(arguments)?;
-    let command = given.next("a command")?;
-    let order = match command.to_str() {
-        Some("verdict") => Order::Verdict(given.asked()?),
-        Some("list") => Order::List(given.asked()?),
-        Some("run") => Order::Run(given.packet()?),
-        Some("audit") => Order::Audit(given.audit()?),
-        Some("show") => Order::Show(given.source("a fabric file")?),
-        Some("pack") => Order::Pack {
-            text: given.source("a text")?,
-            file: given.next("a fabric file to write")?,
-        },
-        Some("dot") => Order::Dot(given.picture()?),
-        _ => return Err(wrong(format!("there is no command {}", quoted(&command)))),
+    let mut words = words.into_iter();
+    let name = words.next().unwrap_or_default();
+    let command = match name.to_str() {
+        Some(name) => command_named(name)?,
+        None => return Err(no_command(&name)),
     };
+    let mut given = Given::sort(command, words)?;
+    let order = order(command, &mut given)?;
     given.end()?;
     Ok(order)
 }
 
-fn wrong(message: String) -> Failure {
-    Failure::Error(format!("{message}; see mwishovala --help"))
+fn order(command: &Command, given: &mut Given) -> Result<Order, Failure> {
+    Ok(match command.name {
+        "verdict" => Order::Verdict(given.asked()?),
+        "gate" => Order::Gate(given.gate()?),
+        "list" => Order::List(given.asked()?),
+        "run" => Order::Run(given.packet()?),
+        "audit" => Order::Audit(given.audit()?),
+        "show" => Order::Show(given.source()?),
+        "pack" => Order::Pack {
+            text: given.source()?,
+            file: given.next()?,
+        },
+        "dot" => Order::Dot(given.picture()?),
+        "man" => print(manual::page()),
+        "completions" => print(manual::completions(given.shell()?)),
+        "help" if given.is_empty() => print(manual::overview()),
+        "help" => print(manual::help(given.command()?)),
+        other => return Err(no_command(other.as_ref())),
+    })
 }
 
-fn quoted(argument: &OsStr) -> String {
-    format!("'{}'", argument.to_string_lossy())
+fn print(text: String) -> Order {
+    Order::Print(text, DONE)
 }
 
-/// Arguments in their order, and options.
-#[derive(Default)]
-struct Given {
-    arguments: std::collections::VecDeque<OsString>,
-    asked: Option<HeaderSet>,
-    hops: Option<u32>,
-    budget: Option<u32>,
-    jobs: Option<u32>,
-    json: bool,
+/// A gate's status is 0 for 'isolated' alone, so its help there is no answer.
+fn help_after(command: &Command) -> Order {
+    let status = match command.name {
+        "gate" => NO_ANSWER,
+        _ => DONE,
+    };
+    Order::Print(manual::help(command), status)
+}
+
+fn command_named(name: &str) -> Result<&'static Command, Failure> {
+    Command::named(name).ok_or_else(|| no_command(name.as_ref()))
+}
+
+fn no_command(name: &OsStr) -> Failure {
+    wrong(format!("there is no command {}", quoted(name)))
+}
+
+fn wrong(message: impl AsRef<str>) -> Failure {
+    Failure::Error(format!("{}; see mwishovala --help", message.as_ref()))
+}
+
+/// What is echoed has no control characters.
+fn quoted(word: &OsStr) -> String {
+    format!("'{}'", word.to_string_lossy().escape_debug())
 }
 
 impl Given {
-    fn sort(arguments: Vec<OsString>) -> Result<Given, Failure> {
-        let mut given = Given::default();
-        let mut rest = arguments.into_iter();
-        while let Some(argument) = rest.next() {
-            let option = argument.to_str().filter(|text| text.starts_with("--"));
-            match option {
-                Some("--json") => given.json = true,
-                Some(option) => {
-                    let (name, value) = match option.split_once('=') {
-                        Some((name, value)) => (name, Some(value.into())),
-                        None => (option, None),
-                    };
-                    given.option(name, || value.or_else(|| rest.next()))?;
-                }
-                None => given.arguments.push_back(argument),
-            }
-        }
-        Ok(given)
+    fn source(&mut self) -> Result<Source, Failure> {
+        self.next().map(Source)
     }
 
-    fn option(
-        &mut self,
-        name: &str,
-        value: impl FnOnce() -> Option<OsString>,
-    ) -> Result<(), Failure> {
-        if !["--asked", "--hops", "--budget", "--jobs"].contains(&name) {
-            return Err(wrong(format!("there is no option '{name}'")));
-        }
-        let value = value().ok_or_else(|| wrong(format!("{name} needs a value")))?;
-        let again = match name {
-            "--asked" => self.asked.replace(header_set(name, &value)?).is_some(),
-            "--hops" => self.hops.replace(number(name, &value)?).is_some(),
-            "--budget" => self.budget.replace(number(name, &value)?).is_some(),
-            _ => self.jobs.replace(number(name, &value)?).is_some(),
-        };
-        match again {
-            true => Err(wrong(format!("{name} stands there twice"))),
-            false => Ok(()),
-        }
-    }
-
-    fn next(&mut self, what: &str) -> Result<OsString, Failure> {
-        let missing = || wrong(format!("{what} is missing"));
-        self.arguments.pop_front().ok_or_else(missing)
-    }
-
-    fn source(&mut self, what: &str) -> Result<Source, Failure> {
-        self.next(what).map(Source)
-    }
-
-    fn port(&mut self, what: &str) -> Result<u32, Failure> {
-        number(what, &self.next(what)?)
-    }
-
-    /// Options that this command has no use for are refused by `end`.
-    fn query(&mut self, port: u32) -> Query {
-        Query {
+    fn query(&mut self, port: u32) -> Result<Query, Failure> {
+        Ok(Query {
             port,
-            hops: self.hops.take().unwrap_or(MOST_HOPS),
-            budget: self.budget.take().unwrap_or(USUAL_BUDGET),
-            asked: self.asked.take().unwrap_or(HeaderSet::ALL_WILD),
-        }
+            hops: self.number("--hops")?.unwrap_or(MOST_HOPS),
+            budget: self.number("--budget")?.unwrap_or(USUAL_BUDGET),
+            asked: self.set("--asked")?.unwrap_or(HeaderSet::ALL_WILD),
+        })
     }
 
     fn asked(&mut self) -> Result<Asked, Failure> {
-        let file = self.source("a fabric file")?;
-        let target = self.port("a target port")?;
+        let file = self.source()?;
+        let target = self.port()?;
         Ok(Asked {
             file,
-            query: self.query(target),
-            json: std::mem::take(&mut self.json),
+            query: self.query(target)?,
+            json: self.flag("--json"),
+        })
+    }
+
+    fn gate(&mut self) -> Result<Gate, Failure> {
+        Ok(Gate {
+            file: self.source()?,
+            target: self.port()?,
+            budget: self.number("--budget")?.unwrap_or(USUAL_BUDGET),
         })
     }
 
     fn packet(&mut self) -> Result<Packet, Failure> {
-        let file = self.source("a fabric file")?;
-        let start = self.port("a start port")?;
-        let header = self.next("a header")?;
-        let text = header.to_string_lossy();
-        let header = parse_header(&text).map_err(|error| {
-            wrong(format!(
-                "header, column {}: {}",
-                error.column, error.message
-            ))
-        })?;
         Ok(Packet {
-            file,
-            start,
-            header,
-            hops: self.hops.take().unwrap_or(MOST_HOPS),
-            json: std::mem::take(&mut self.json),
+            file: self.source()?,
+            start: self.port()?,
+            header: self.header()?,
+            hops: self.number("--hops")?.unwrap_or(MOST_HOPS),
+            json: self.flag("--json"),
         })
     }
 
     fn audit(&mut self) -> Result<Audit, Failure> {
         let cores = available_parallelism().map_or(1, usize::from);
+        let jobs = match self.number("--jobs")? {
+            None => cores.min(MOST_JOBS as usize),
+            Some(jobs) if (1..=MOST_JOBS).contains(&jobs) => jobs as usize,
+            Some(jobs) => return Err(wrong(format!("--jobs is 1 to {MOST_JOBS}, not {jobs}"))),
+        };
         Ok(Audit {
-            file: self.source("a fabric file")?,
-            query: self.query(0),
-            jobs: self
-                .jobs
-                .take()
-                .map_or(cores, |jobs| jobs.clamp(1, 64) as usize),
-            json: std::mem::take(&mut self.json),
+            file: self.source()?,
+            query: self.query(0)?,
+            jobs,
+            json: self.flag("--json"),
         })
     }
 
     fn picture(&mut self) -> Result<Picture, Failure> {
-        let file = self.source("a fabric file")?;
-        let query = match self.arguments.is_empty() {
+        let file = self.source()?;
+        let query = match self.is_empty() {
             true => None,
             false => {
-                let target = self.port("a target port")?;
-                Some(self.query(target))
+                let target = self.port()?;
+                Some(self.query(target)?)
             }
         };
         Ok(Picture { file, query })
     }
 
-    /// Nothing may be left over.
-    fn end(self) -> Result<(), Failure> {
-        if let Some(argument) = self.arguments.front() {
-            return Err(wrong(format!(
-                "{} is one argument too many",
-                quoted(argument)
-            )));
-        }
-        let unused = [
-            ("--asked", self.asked.is_some()),
-            ("--hops", self.hops.is_some()),
-            ("--budget", self.budget.is_some()),
-            ("--jobs", self.jobs.is_some()),
-            ("--json", self.json),
-        ];
-        match unused.iter().find(|(_, given)| *given) {
-            Some((name, _)) => Err(wrong(format!("{name} is no option of this command"))),
-            None => Ok(()),
+    fn command(&mut self) -> Result<&'static Command, Failure> {
+        let name = self.next()?;
+        match name.to_str() {
+            Some(name) => command_named(name),
+            None => Err(no_command(&name)),
         }
     }
-}
 
-fn number(what: &str, value: &OsStr) -> Result<u32, Failure> {
-    let digits = value
-        .to_str()
-        .filter(|text| text.chars().all(|digit| digit.is_ascii_digit()));
-    let number = digits.and_then(|text| text.parse().ok());
-    number.ok_or_else(|| wrong(format!("{what}: {} is no number", quoted(value))))
-}
-
-fn header_set(name: &str, value: &OsStr) -> Result<HeaderSet, Failure> {
-    let text = value.to_string_lossy();
-    let set = text.parse::<HeaderSet>();
-    set.map_err(|error| {
-        wrong(format!(
-            "{name}, column {}: {}",
-            error.column, error.message
-        ))
-    })
+    fn shell(&mut self) -> Result<Shell, Failure> {
+        let name = self.next()?;
+        let shell = name.to_str().and_then(Shell::named);
+        shell.ok_or_else(|| wrong(format!("there are no completions for {}", quoted(&name))))
+    }
 }

@@ -8,7 +8,7 @@ use std::thread;
 
 use super::arguments::Audit;
 use super::foreign::Share;
-use super::{Failure, Outcome, ISOLATED, NO_ANSWER, REACHED};
+use super::{Failure, Output, ISOLATED, NO_ANSWER, REACHED};
 use crate::calls::{list_growing, verdict};
 use crate::fabric::Fabric;
 use crate::finds::Finds;
@@ -20,6 +20,9 @@ use progress::Progress;
 
 /// The most bytes that one target's list may take.
 const MOST_AREA: usize = 64 << 20;
+
+/// No verdict on no port is no 'isolated'.
+const NOTHING_TO_ISOLATE: &str = "it has no edge ports, so there is nothing to audit";
 
 /// What is known of one target.
 struct Row {
@@ -35,22 +38,26 @@ struct Senders {
     own: Vec<u16>,
 }
 
-pub(super) fn audit(audit: &Audit) -> Result<Outcome, Failure> {
-    let (file, fabric) = audit.file.fabric()?;
-    let rows = examine(&file, &fabric, &audit.query, audit.jobs);
+pub(super) fn audit(audit: &Audit, out: Output) -> Result<u8, Failure> {
+    let loaded = audit.file.load()?;
+    let (file, fabric) = (&loaded.bytes, &loaded.fabric);
+    if fabric.edges.is_empty() {
+        return Err(audit.file.failed(NOTHING_TO_ISOLATE));
+    }
+    let rows = examine(file, fabric, &audit.query, audit.jobs);
     if let Some(refusal) = refused_for_all(&rows) {
         return Err(audit.file.refused(refusal.clone()));
     }
-    let status = if rows.iter().any(|row| row.verdict.is_err()) {
+    match audit.json {
+        true => writeln!(out, "{}", report::in_json(&rows))?,
+        false => write!(out, "{}", report::in_words(&rows))?,
+    }
+    Ok(if rows.iter().any(|row| row.verdict.is_err()) {
         NO_ANSWER
     } else if rows.iter().any(Row::is_reached) {
         REACHED
     } else {
         ISOLATED
-    };
-    Ok(match audit.json {
-        true => Outcome::json(report::in_json(&rows), status),
-        false => Outcome::text(report::in_words(&rows), status),
     })
 }
 

@@ -6,7 +6,7 @@ use std::collections::BTreeMap;
 use std::fmt::Write;
 
 use super::arguments::Picture;
-use super::{describe, Failure, Outcome};
+use super::{describe, Failure, Output, DONE};
 use crate::calls::verdict;
 use crate::fabric::Fabric;
 use crate::verdict::Verdict;
@@ -16,16 +16,18 @@ const MARKED: &str = "color=red fontcolor=red penwidth=3";
 /// More entries than these aren't named on one arrow.
 const MOST_NAMED: usize = 6;
 
-pub(super) fn dot(picture: &Picture) -> Result<Outcome, Failure> {
-    let (file, fabric) = picture.file.fabric()?;
+pub(super) fn dot(picture: &Picture, out: Output) -> Result<u8, Failure> {
+    let loaded = picture.file.load()?;
+    let (file, fabric) = (&loaded.bytes, &loaded.fabric);
     let mut way = Vec::new();
     if let Some(query) = &picture.query {
-        let verdict = verdict(&file, query).map_err(|refusal| picture.file.refused(refusal))?;
+        let verdict = verdict(file, query).map_err(|refusal| picture.file.refused(refusal))?;
         if let Verdict::Reached { entries, .. } = verdict {
             way = entries.to_vec();
         }
     }
-    Ok(Outcome::text(draw(&fabric, &way), 0))
+    out.write_all(draw(fabric, &way).as_bytes())?;
+    Ok(DONE)
 }
 
 /// Ports are nodes, in a box with the ports that entries join them to: their

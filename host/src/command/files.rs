@@ -4,7 +4,8 @@ use std::ffi::{OsStr, OsString};
 use std::fs::File;
 use std::io::{self, Read};
 
-use super::{Failure, Outcome};
+use super::{Failure, Output, DONE};
+use crate::digest::Digest;
 use crate::fabric::Fabric;
 use crate::refusal::{Question, Refusal};
 use crate::text;
@@ -41,15 +42,19 @@ impl Source {
         }
     }
 
-    fn failed(&self, why: &str) -> Failure {
+    pub(super) fn failed(&self, why: &str) -> Failure {
         Failure::Error(format!("{}: {why}", self.name()))
     }
 
-    /// The file's bytes and records, if the proved library accepts it.
-    pub(super) fn fabric(&self) -> Result<(Vec<u8>, Fabric), Failure> {
+    /// The fabric, if the proved library accepts it.
+    pub(super) fn load(&self) -> Result<Loaded, Failure> {
         let bytes = self.read()?;
         match Fabric::read(&bytes) {
-            Ok(fabric) => Ok((bytes, fabric)),
+            Ok(fabric) => Ok(Loaded {
+                digest: Digest::of(&bytes),
+                bytes,
+                fabric,
+            }),
             Err(refusal) if looks_like_text(&bytes, &refusal) => {
                 Err(self.failed(&format!("{refusal}; it looks like text: pack it first")))
             }
@@ -62,31 +67,37 @@ impl Source {
     }
 }
 
+/// A fabric that was read once: all that is said of it is about these bytes.
+pub(super) struct Loaded {
+    pub(super) bytes: Vec<u8>,
+    pub(super) fabric: Fabric,
+    pub(super) digest: Digest,
+}
+
 fn looks_like_text(bytes: &[u8], refusal: &Refusal) -> bool {
     let at_the_start = matches!(refusal.question, Question::Length | Question::Start);
     let written = |byte: &u8| byte.is_ascii_graphic() || byte.is_ascii_whitespace();
     at_the_start && !bytes.is_empty() && bytes.iter().all(written)
 }
 
-pub(super) fn show(file: &Source) -> Result<Outcome, Failure> {
-    let (_, fabric) = file.fabric()?;
-    Ok(Outcome::text(text::show(&fabric), 0))
+pub(super) fn show(file: &Source, out: Output) -> Result<u8, Failure> {
+    let loaded = file.load()?;
+    out.write_all(text::show(&loaded.fabric).as_bytes())?;
+    Ok(DONE)
 }
 
 /// Nothing is written unless all of the text is right.
-pub(super) fn pack(text: &Source, file: &OsStr) -> Result<Outcome, Failure> {
+pub(super) fn pack(text: &Source, file: &OsStr, out: Output) -> Result<u8, Failure> {
     let bytes = text.read()?;
     let name = text.name();
     let said = String::from_utf8(bytes)
         .map_err(|_| Failure::Error(format!("{name}: it isn't text (UTF-8)")))?;
     let packed = text::pack(&said).map_err(|wrong| Failure::Error(format!("{name}:{wrong}")))?;
     if file == "-" {
-        return Ok(Outcome {
-            output: packed,
-            status: 0,
-        });
+        out.write_all(&packed)?;
+        return Ok(DONE);
     }
     let failed = |error| Failure::Error(format!("{}: {error}", file.to_string_lossy()));
     std::fs::write(file, packed).map_err(failed)?;
-    Ok(Outcome::text(String::new(), 0))
+    Ok(DONE)
 }

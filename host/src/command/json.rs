@@ -10,6 +10,7 @@ use crate::refusal::Refusal;
 
 /// A JSON value.
 pub(super) enum Json {
+    Null,
     Number(u64),
     Text(String),
     List(Vec<Json>),
@@ -19,6 +20,7 @@ pub(super) enum Json {
 impl fmt::Display for Json {
     fn fmt(&self, f: &mut fmt::Formatter) -> fmt::Result {
         match self {
+            Json::Null => f.write_str("null"),
             Json::Number(number) => write!(f, "{number}"),
             Json::Text(text) => write_text(f, text),
             Json::List(values) => {
@@ -101,11 +103,20 @@ pub(super) fn path(fabric: &Fabric, entries: &[u16]) -> Json {
     }))
 }
 
+/// Why there is no answer: a refusal by the library.
 pub(super) fn refused(refusal: &Refusal) -> Json {
-    let why = Json::Object(vec![
+    Json::Object(vec![
         ("question", number(refusal.question.number() as u64)),
         ("place", number(refusal.place)),
         ("reason", text(&refusal.reason)),
-    ]);
-    Json::Object(vec![("refused", why)])
+    ])
+}
+
+/// The same shape where the library wasn't asked.
+pub(super) fn failed(reason: &str) -> Json {
+    Json::Object(vec![
+        ("question", Json::Null),
+        ("place", Json::Null),
+        ("reason", text(reason)),
+    ])
 }

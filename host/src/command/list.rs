@@ -6,7 +6,7 @@ use super::arguments::Asked;
 use super::foreign::Share;
 use super::json::{self, Json};
 use super::table::table;
-use super::{describe, Failure, Outcome};
+use super::{describe, Failure, Output, DONE};
 use crate::calls::list_growing;
 use crate::fabric::Fabric;
 use crate::finds::{Find, Finds};
@@ -14,18 +14,20 @@ use crate::finds::{Find, Finds};
 /// The most bytes that a list may take.
 const MOST_AREA: usize = 256 << 20;
 
-pub(super) fn list(asked: &Asked) -> Result<Outcome, Failure> {
-    let (file, fabric) = asked.file.fabric()?;
+pub(super) fn list(asked: &Asked, out: Output) -> Result<u8, Failure> {
+    let loaded = asked.file.load()?;
+    let (file, fabric) = (&loaded.bytes, &loaded.fabric);
     let mut area = Vec::new();
-    let finds = list_growing(&file, &mut area, MOST_AREA, &asked.query)
+    let finds = list_growing(file, &mut area, MOST_AREA, &asked.query)
         .map_err(|refusal| asked.file.refused(refusal))?;
     let target = asked.query.port;
     let text = match (asked.json, finds.clone().next()) {
-        (true, _) => in_json(&fabric, target, finds),
+        (true, _) => in_json(fabric, target, finds),
         (false, None) => format!("nothing gets out at port {target}\n"),
-        (false, Some(_)) => table(HEADING, finds.map(|find| row(&fabric, target, &find))),
+        (false, Some(_)) => table(HEADING, finds.map(|find| row(fabric, target, &find))),
     };
-    Ok(Outcome::text(text, 0))
+    out.write_all(text.as_bytes())?;
+    Ok(DONE)
 }
 
 const HEADING: [&str; 6] = ["from", "group", "whose", "hops", "entries", "headers"];

@@ -2,19 +2,21 @@
 
 use super::arguments::Packet;
 use super::json::{self, Json};
-use super::{describe, Failure, Outcome};
+use super::{describe, Failure, Output, DONE};
 use crate::calls;
 use crate::fabric::Fabric;
 use crate::run::{Fate, Run};
 
-pub(super) fn run(packet: &Packet) -> Result<Outcome, Failure> {
-    let (file, fabric) = packet.file.fabric()?;
-    let run = calls::run(&file, packet.start, packet.header, packet.hops)
+pub(super) fn run(packet: &Packet, out: Output) -> Result<u8, Failure> {
+    let loaded = packet.file.load()?;
+    let (file, fabric) = (&loaded.bytes, &loaded.fabric);
+    let run = calls::run(file, packet.start, packet.header, packet.hops)
         .map_err(|refusal| packet.file.refused(refusal))?;
-    Ok(match packet.json {
-        true => Outcome::json(in_json(&fabric, &run), 0),
-        false => Outcome::text(in_words(&fabric, &run), 0),
-    })
+    match packet.json {
+        true => writeln!(out, "{}", in_json(fabric, &run))?,
+        false => write!(out, "{}", in_words(fabric, &run))?,
+    }
+    Ok(DONE)
 }
 
 fn in_words(fabric: &Fabric, run: &Run) -> String {

@@ -2,23 +2,24 @@
 
 use super::arguments::Asked;
 use super::json::{self, Json};
-use super::{describe, Failure, Outcome, ISOLATED, REACHED};
+use super::{describe, Failure, Output, ISOLATED, REACHED};
 use crate::calls;
 use crate::fabric::Fabric;
 use crate::query::Query;
 use crate::verdict::Verdict;
 
-pub(super) fn verdict(asked: &Asked) -> Result<Outcome, Failure> {
-    let (file, fabric) = asked.file.fabric()?;
+pub(super) fn verdict(asked: &Asked, out: Output) -> Result<u8, Failure> {
+    let loaded = asked.file.load()?;
+    let (file, fabric) = (&loaded.bytes, &loaded.fabric);
     let verdict =
-        calls::verdict(&file, &asked.query).map_err(|refusal| asked.file.refused(refusal))?;
-    let status = match verdict {
+        calls::verdict(file, &asked.query).map_err(|refusal| asked.file.refused(refusal))?;
+    match asked.json {
+        true => writeln!(out, "{}", in_json(fabric, &verdict))?,
+        false => write!(out, "{}", in_words(fabric, &asked.query, &verdict))?,
+    }
+    Ok(match verdict {
         Verdict::Isolated { .. } => ISOLATED,
         Verdict::Reached { .. } => REACHED,
-    };
-    Ok(match asked.json {
-        true => Outcome::json(in_json(&fabric, &verdict), status),
-        false => Outcome::text(in_words(&fabric, &asked.query, &verdict), status),
     })
 }
 

@@ -29,11 +29,25 @@ impl Ran {
     }
 }
 
+/// The program.
+pub const PROGRAM: &str = env!("CARGO_BIN_EXE_mwishovala");
+
 /// Runs the command there. It never panics and is never killed.
 pub fn mwishovala(folder: &Path, arguments: &[&str], input: &[u8]) -> Ran {
-    let mut child = Command::new(env!("CARGO_BIN_EXE_mwishovala"))
-        .args(arguments)
-        .current_dir(folder)
+    let mut command = Command::new(PROGRAM);
+    command.args(arguments);
+    finished(command.current_dir(folder), input)
+}
+
+/// Runs this shell script there, with the program as `$0`.
+pub fn in_a_shell(folder: &Path, script: &str) -> Ran {
+    let mut shell = Command::new("sh");
+    shell.args(["-c", script, PROGRAM]);
+    finished(shell.current_dir(folder), &[])
+}
+
+fn finished(command: &mut Command, input: &[u8]) -> Ran {
+    let mut child = command
         .stdin(Stdio::piped())
         .stdout(Stdio::piped())
         .stderr(Stdio::piped())
@@ -44,8 +58,8 @@ pub fn mwishovala(folder: &Path, arguments: &[&str], input: &[u8]) -> Ran {
     let output = child.wait_with_output().expect("the command ends");
     let err = String::from_utf8_lossy(&output.stderr).into_owned();
     let status = output.status.code().unwrap_or(-1);
-    assert!((0..=2).contains(&status), "{arguments:?}: {status}: {err}");
-    assert!(!err.contains("panicked"), "{arguments:?}: {err}");
+    assert!((0..=2).contains(&status), "{command:?}: {status}: {err}");
+    assert!(!err.contains("panicked"), "{command:?}: {err}");
     Ran {
         out: output.stdout,
         err,
@@ -54,7 +68,19 @@ pub fn mwishovala(folder: &Path, arguments: &[&str], input: &[u8]) -> Ran {
 }
 
 /// What it can be asked to do.
-pub const COMMANDS: [&str; 7] = ["verdict", "list", "run", "audit", "show", "pack", "dot"];
+pub const COMMANDS: [&str; 11] = [
+    "verdict",
+    "gate",
+    "list",
+    "run",
+    "audit",
+    "show",
+    "pack",
+    "dot",
+    "help",
+    "man",
+    "completions",
+];
 
 /// Document 01's fabric F as text.
 pub const F: &str = "\

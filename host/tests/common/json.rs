@@ -11,6 +11,9 @@ fn value(text: &str) -> Option<&str> {
         '{' => items(&text[1..], '}', member),
         '[' => items(&text[1..], ']', value),
         '"' => string(text),
+        'n' => text.strip_prefix("null"),
+        't' => text.strip_prefix("true"),
+        'f' => text.strip_prefix("false"),
         _ => {
             let end = text
                 .find(|c: char| !c.is_ascii_digit())

@@ -1,0 +1,34 @@
+//! `mwishovala gate`: what a mount hangs on.
+
+use super::arguments::Gate;
+use super::{Failure, Output, ISOLATED, REACHED};
+use crate::calls::verdict;
+use crate::query::Query;
+use crate::verdict::Verdict;
+
+/// The question is fixed but for the target: every header, and all hops.
+pub(super) fn gate(gate: &Gate, out: Output) -> Result<u8, Failure> {
+    let loaded = gate.file.load()?;
+    let query = Query {
+        budget: gate.budget,
+        ..Query::all_wild(gate.target)
+    };
+    let verdict = verdict(&loaded.bytes, &query).map_err(|refusal| gate.file.refused(refusal))?;
+    let (target, hops, digest) = (query.port, query.hops, loaded.digest);
+    match verdict {
+        Verdict::Isolated { .. } => {
+            writeln!(
+                out,
+                "isolated: port {target}, every IPv4 header, {hops} hops, sha256 {digest}"
+            )?;
+            Ok(ISOLATED)
+        }
+        Verdict::Reached { port, .. } => {
+            writeln!(
+                out,
+                "reached: port {target}, from port {port}, sha256 {digest}; verdict has the packet"
+            )?;
+            Ok(REACHED)
+        }
+    }
+}

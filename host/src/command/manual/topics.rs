@@ -1,0 +1,66 @@
+//! What the help and the manual page say beside the commands.
+
+/// A heading, and lines under it that stand as they are.
+pub(super) struct Topic {
+    pub(super) title: &'static str,
+    pub(super) text: &'static str,
+}
+
+pub(super) const ARGUMENTS: Topic = Topic {
+    title: "Arguments",
+    text: "\
+FABRIC is a fabric file, TEXT a text; - is standard input, and for pack's FABRIC
+standard output. TARGET and START are edge ports. A packet is foreign if it
+starts in another group than the target's, or outside what its own edge port
+admits. Options may stand anywhere after the command; -- ends them.
+",
+};
+
+/// What 'isolated' is about, and what it isn't.
+pub(super) const COVERED: Topic = Topic {
+    title: "What is covered",
+    text: "\
+Answers are about IPv4 headers: nw_src, nw_dst, tp_src, tp_dst, dl_vlan, nw_tos
+and nw_proto. ARP, IPv6 and other frames are not told apart in version 1 of the
+file: 'isolated' says nothing of them. It holds for packets that make at most
+the hop limit's hops, and of the fabric that the file says.
+",
+};
+
+pub(super) const SETS: Topic = Topic {
+    title: "Header sets",
+    text: "\
+SET is 'any', or fields with commas between them, as nw_dst=10.0.0.2,tp_dst=80.
+The fields are nw_src, nw_dst, tp_src, tp_dst, dl_vlan, nw_tos, nw_proto.
+  addresses  10.0.0.2  10.0.0.0/24  10.0.0.0/255.0.0.255  0x0a000000/0xff000000
+  numbers    80   0x50   0x50/0xfff0 (value/mask)   nw_proto also tcp, udp, icmp
+HEADER is the same without masks; a field that isn't named is 0.
+",
+};
+
+pub(super) const TEXTS: Topic = Topic {
+    title: "Texts",
+    text: "\
+A text has a line for each edge, link and entry, and # before a remark:
+  edge 1 group 7 admits nw_src=10.0.0.0/24
+  link 10 -> 11
+  entry 1 -> 10 priority 20 match nw_dst=10.0.0.2,tp_dst=80 set dl_vlan=5
+  entry 11 -> drop priority 1 match any
+Of the entries at an in-port that match, the highest priority takes the packet;
+of equals the first. Ports are 1 to 4095. At most 64 edges, 256 links, 512
+entries, 64 of them at one in-port.
+",
+};
+
+pub(super) const STATUS: Topic = Topic {
+    title: "Exit status",
+    text: "\
+0  verdict, gate, audit: isolated, and nothing else; the others: done
+1  verdict, gate, audit: a foreign packet gets through
+2  no answer: bad use, a file that can't be read or written, a question that
+   was refused, a budget that was used up, or output that couldn't be written
+",
+};
+
+/// The last of each command's statuses.
+pub(super) const NO_ANSWER: &str = "no answer: bad use, a refusal, or an error";
