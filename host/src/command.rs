@@ -10,6 +10,7 @@ mod gate;
 mod json;
 mod list;
 mod manual;
+mod replace;
 mod run;
 mod table;
 mod verdict;

@@ -1,9 +1,13 @@
 //! Files read and written: `show` and `pack`.
 
 use std::ffi::{OsStr, OsString};
-use std::fs::File;
+use std::fs::{self, File};
 use std::io::{self, Read};
+use std::os::fd::AsFd;
+use std::os::unix::fs::MetadataExt;
+use std::path::Path;
 
+use super::replace::replace;
 use super::{Failure, Output, DONE};
 use crate::digest::Digest;
 use crate::fabric::Fabric;
@@ -39,6 +43,22 @@ impl Source {
             Err(error) => Err(self.failed(&error.to_string())),
             Ok(length) if length as u64 > MOST_BYTES => Err(self.failed("it is far too long")),
             Ok(_) => Ok(bytes),
+        }
+    }
+
+    /// Whether this file is read here too, by whatever name.
+    fn is_the_file(&self, file: &Path) -> bool {
+        let read = match self.is_standard() {
+            true => io::stdin()
+                .as_fd()
+                .try_clone_to_owned()
+                .and_then(|input| File::from(input).metadata()),
+            false => fs::metadata(&self.0),
+        };
+        let which = |file: fs::Metadata| (file.dev(), file.ino());
+        match (read, fs::metadata(file)) {
+            (Ok(read), Ok(file)) => which(read) == which(file),
+            _ => false,
         }
     }
 
@@ -86,10 +106,14 @@ pub(super) fn show(file: &Source, out: Output) -> Result<u8, Failure> {
     Ok(DONE)
 }
 
-/// Nothing is written unless all of the text is right.
+/// Nothing is written unless all of the text is right, and never over it.
 pub(super) fn pack(text: &Source, file: &OsStr, out: Output) -> Result<u8, Failure> {
-    let bytes = text.read()?;
     let name = text.name();
+    let failed = |error: &str| Failure::Error(format!("{}: {error}", file.to_string_lossy()));
+    if text.is_the_file(file.as_ref()) {
+        return Err(failed("it is the text itself, which would be lost"));
+    }
+    let bytes = text.read()?;
     let said = String::from_utf8(bytes)
         .map_err(|_| Failure::Error(format!("{name}: it isn't text (UTF-8)")))?;
     let packed = text::pack(&said).map_err(|wrong| Failure::Error(format!("{name}:{wrong}")))?;
@@ -97,7 +121,6 @@ pub(super) fn pack(text: &Source, file: &OsStr, out: Output) -> Result<u8, Failu
         out.write_all(&packed)?;
         return Ok(DONE);
     }
-    let failed = |error| Failure::Error(format!("{}: {error}", file.to_string_lossy()));
-    std::fs::write(file, packed).map_err(failed)?;
+    replace(file.as_ref(), &packed).map_err(|error| failed(&error.to_string()))?;
     Ok(DONE)
 }
