@@ -13,6 +13,7 @@ mod manual;
 mod replace;
 mod run;
 mod table;
+mod threads;
 mod verdict;
 
 use std::ffi::OsString;

@@ -1,13 +1,10 @@
 //! `mwishovala audit`: every edge port as the target, and who reaches whom.
 
-mod progress;
 mod report;
-
-use std::sync::atomic::{AtomicUsize, Ordering};
-use std::thread;
 
 use super::arguments::Audit;
 use super::foreign::Share;
+use super::threads;
 use super::{Failure, Output, ISOLATED, NO_ANSWER, REACHED};
 use crate::calls::{list_growing, verdict};
 use crate::fabric::Fabric;
@@ -16,7 +13,6 @@ use crate::query::Query;
 use crate::record::Edge;
 use crate::refusal::{Question, Refusal};
 use crate::verdict::Verdict;
-use progress::Progress;
 
 /// The most bytes that one target's list may take.
 const MOST_AREA: usize = 64 << 20;
@@ -44,13 +40,15 @@ pub(super) fn audit(audit: &Audit, out: Output) -> Result<u8, Failure> {
     if fabric.edges.is_empty() {
         return Err(audit.file.failed(NOTHING_TO_ISOLATE));
     }
-    let rows = examine(file, fabric, &audit.query, audit.jobs);
+    let rows = threads::each(&fabric.edges, audit.jobs, "edge ports", |target| {
+        Row::examine(file, fabric, target, &audit.query)
+    })?;
     if let Some(refusal) = refused_for_all(&rows) {
         return Err(audit.file.refused(refusal.clone()));
     }
     match audit.json {
         true => writeln!(out, "{}", report::in_json(&rows))?,
-        false => write!(out, "{}", report::in_words(&rows))?,
+        false => report::in_words(&rows, out)?,
     }
     Ok(if rows.iter().any(|row| row.verdict.is_err()) {
         NO_ANSWER
@@ -67,49 +65,14 @@ fn refused_for_all(rows: &[Row]) -> Option<&Refusal> {
     matches!(refusal.question, Question::Hops | Question::Asked).then_some(refusal)
 }
 
-/// The rows of all edge ports, in their order.
-fn examine(file: &[u8], fabric: &Fabric, query: &Query, jobs: usize) -> Vec<Row> {
-    let next = AtomicUsize::new(0);
-    let progress = Progress::new(fabric.edges.len());
-    let work = || {
-        let (mut rows, mut area) = (Vec::new(), Vec::new());
-        while let Some(target) = fabric.edges.get(next.fetch_add(1, Ordering::Relaxed)) {
-            rows.push(Row::examine(file, fabric, target, query, &mut area));
-            progress.step();
-        }
-        rows
-    };
-    let mut rows = thread::scope(|scope| {
-        let others: Vec<_> = (1..jobs)
-            .filter_map(|_| thread::Builder::new().spawn_scoped(scope, work).ok())
-            .collect();
-        let mut rows = work();
-        rows.extend(
-            others
-                .into_iter()
-                .filter_map(|other| other.join().ok())
-                .flatten(),
-        );
-        rows
-    });
-    progress.end();
-    rows.sort_by_key(|row| row.target.port);
-    rows
-}
-
 impl Row {
-    fn examine(
-        file: &[u8],
-        fabric: &Fabric,
-        target: &Edge,
-        query: &Query,
-        area: &mut Vec<u8>,
-    ) -> Row {
+    fn examine(file: &[u8], fabric: &Fabric, target: &Edge, query: &Query) -> Row {
         let query = Query {
             port: u32::from(target.port),
             ..*query
         };
-        let finds = list_growing(file, area, MOST_AREA, &query);
+        let mut area = Vec::new();
+        let finds = list_growing(file, &mut area, MOST_AREA, &query);
         Row {
             target: *target,
             verdict: verdict(file, &query),

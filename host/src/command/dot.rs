@@ -6,7 +6,7 @@ use std::collections::BTreeMap;
 use std::fmt::Write;
 
 use super::arguments::Picture;
-use super::{describe, Failure, Output, DONE};
+use super::{describe, threads, Failure, Output, DONE};
 use crate::calls::verdict;
 use crate::fabric::Fabric;
 use crate::verdict::Verdict;
@@ -21,7 +21,8 @@ pub(super) fn dot(picture: &Picture, out: Output) -> Result<u8, Failure> {
     let (file, fabric) = (&loaded.bytes, &loaded.fabric);
     let mut way = Vec::new();
     if let Some(query) = &picture.query {
-        let verdict = verdict(file, query).map_err(|refusal| picture.file.refused(refusal))?;
+        let verdict = threads::call(|| verdict(file, query))?
+            .map_err(|refusal| picture.file.refused(refusal))?;
         if let Verdict::Reached { entries, .. } = verdict {
             way = entries.to_vec();
         }

@@ -1,7 +1,7 @@
 //! `mwishovala gate`: what a mount hangs on.
 
 use super::arguments::Gate;
-use super::{Failure, Output, ISOLATED, REACHED};
+use super::{threads, Failure, Output, ISOLATED, REACHED};
 use crate::calls::verdict;
 use crate::query::Query;
 use crate::verdict::Verdict;
@@ -13,7 +13,8 @@ pub(super) fn gate(gate: &Gate, out: Output) -> Result<u8, Failure> {
         budget: gate.budget,
         ..Query::all_wild(gate.target)
     };
-    let verdict = verdict(&loaded.bytes, &query).map_err(|refusal| gate.file.refused(refusal))?;
+    let verdict = threads::call(|| verdict(&loaded.bytes, &query))?
+        .map_err(|refusal| gate.file.refused(refusal))?;
     let (target, hops, digest) = (query.port, query.hops, loaded.digest);
     match verdict {
         Verdict::Isolated { .. } => {

@@ -1,12 +1,12 @@
 //! `mwishovala list`.
 
-use std::fmt::Write;
+use std::io;
 
 use super::arguments::Asked;
 use super::foreign::Share;
 use super::json::{self, Json};
 use super::table::table;
-use super::{describe, Failure, Output, DONE};
+use super::{describe, threads, Failure, Output, DONE};
 use crate::calls::list_growing;
 use crate::fabric::Fabric;
 use crate::finds::{Find, Finds};
@@ -18,15 +18,14 @@ pub(super) fn list(asked: &Asked, out: Output) -> Result<u8, Failure> {
     let loaded = asked.file.load()?;
     let (file, fabric) = (&loaded.bytes, &loaded.fabric);
     let mut area = Vec::new();
-    let finds = list_growing(file, &mut area, MOST_AREA, &asked.query)
+    let finds = threads::call(|| list_growing(file, &mut area, MOST_AREA, &asked.query))?
         .map_err(|refusal| asked.file.refused(refusal))?;
     let target = asked.query.port;
-    let text = match (asked.json, finds.clone().next()) {
-        (true, _) => in_json(fabric, target, finds),
-        (false, None) => format!("nothing gets out at port {target}\n"),
-        (false, Some(_)) => table(HEADING, finds.map(|find| row(fabric, target, &find))),
-    };
-    out.write_all(text.as_bytes())?;
+    match (asked.json, finds.clone().next()) {
+        (true, _) => in_json(out, fabric, target, finds)?,
+        (false, None) => writeln!(out, "nothing gets out at port {target}")?,
+        (false, Some(_)) => table(out, HEADING, finds.map(|find| row(fabric, target, &find)))?,
+    }
     Ok(DONE)
 }
 
@@ -55,13 +54,13 @@ fn row(fabric: &Fabric, target: u32, find: &Find) -> [String; 6] {
 }
 
 /// One find after the other: there may be millions.
-fn in_json(fabric: &Fabric, target: u32, finds: Finds) -> String {
-    let mut text = String::from("{\"finds\":[");
+fn in_json(out: Output, fabric: &Fabric, target: u32, finds: Finds) -> io::Result<()> {
+    out.write_all(b"{\"finds\":[")?;
     for (place, find) in finds.enumerate() {
         let comma = if place == 0 { "" } else { "," };
-        let _ = write!(text, "{comma}{}", find_in_json(fabric, target, &find));
+        write!(out, "{comma}{}", find_in_json(fabric, target, &find))?;
     }
-    text + "]}\n"
+    out.write_all(b"]}\n")
 }
 
 fn find_in_json(fabric: &Fabric, target: u32, find: &Find) -> Json {

@@ -2,7 +2,7 @@
 
 use super::arguments::Packet;
 use super::json::{self, Json};
-use super::{describe, Failure, Output, DONE};
+use super::{describe, threads, Failure, Output, DONE};
 use crate::calls;
 use crate::fabric::Fabric;
 use crate::run::{Fate, Run};
@@ -10,7 +10,7 @@ use crate::run::{Fate, Run};
 pub(super) fn run(packet: &Packet, out: Output) -> Result<u8, Failure> {
     let loaded = packet.file.load()?;
     let (file, fabric) = (&loaded.bytes, &loaded.fabric);
-    let run = calls::run(file, packet.start, packet.header, packet.hops)
+    let run = threads::call(|| calls::run(file, packet.start, packet.header, packet.hops))?
         .map_err(|refusal| packet.file.refused(refusal))?;
     match packet.json {
         true => writeln!(out, "{}", in_json(fabric, &run))?,

@@ -1,11 +1,16 @@
 //! Tables with columns as wide as they need to be.
 
-/// A heading and rows, which are gone through twice and never all in memory.
-/// The last column isn't filled up.
+use std::io;
+
+use super::Output;
+
+/// Writes a heading and rows, which are gone through twice and never all in
+/// memory. The last column isn't filled up.
 pub(super) fn table<const N: usize>(
+    out: Output,
     heading: [&str; N],
     rows: impl Iterator<Item = [String; N]> + Clone,
-) -> String {
+) -> io::Result<()> {
     let rows = std::iter::once(heading.map(String::from)).chain(rows);
     let mut widths = [0; N];
     for row in rows.clone() {
@@ -13,13 +18,12 @@ pub(super) fn table<const N: usize>(
             *width = cell.chars().count().max(*width);
         }
     }
-    let mut text = String::new();
     for row in rows {
-        for (cell, width) in row.iter().zip(widths) {
-            text += &format!("{cell:<width$}  ");
-        }
-        text.truncate(text.trim_end().len());
-        text.push('\n');
+        let cells = row.iter().zip(widths);
+        let line: String = cells
+            .map(|(cell, width)| format!("{cell:<width$}  "))
+            .collect();
+        writeln!(out, "{}", line.trim_end())?;
     }
-    text
+    Ok(())
 }

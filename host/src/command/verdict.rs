@@ -2,7 +2,7 @@
 
 use super::arguments::Asked;
 use super::json::{self, Json};
-use super::{describe, Failure, Output, ISOLATED, REACHED};
+use super::{describe, threads, Failure, Output, ISOLATED, REACHED};
 use crate::calls;
 use crate::fabric::Fabric;
 use crate::query::Query;
@@ -11,8 +11,8 @@ use crate::verdict::Verdict;
 pub(super) fn verdict(asked: &Asked, out: Output) -> Result<u8, Failure> {
     let loaded = asked.file.load()?;
     let (file, fabric) = (&loaded.bytes, &loaded.fabric);
-    let verdict =
-        calls::verdict(file, &asked.query).map_err(|refusal| asked.file.refused(refusal))?;
+    let verdict = threads::call(|| calls::verdict(file, &asked.query))?
+        .map_err(|refusal| asked.file.refused(refusal))?;
     match asked.json {
         true => writeln!(out, "{}", in_json(fabric, &verdict))?,
         false => write!(out, "{}", in_words(fabric, &asked.query, &verdict))?,

@@ -1,26 +1,30 @@
 //! An audit's table.
 
+use std::io;
+
 use super::super::describe::{counted, numbers};
 use super::super::json::{self, Json};
 use super::super::table::table;
+use super::super::Output;
 use super::Row;
 use crate::verdict::Verdict;
 
-pub(super) fn in_words(rows: &[Row]) -> String {
+pub(super) fn in_words(rows: &[Row], out: Output) -> io::Result<()> {
     let reached = rows.iter().filter(|row| row.is_reached()).count();
     let refused = rows.iter().filter(|row| row.verdict.is_err()).count();
     let isolated = rows.len() - reached - refused;
-    let mut text = format!(
-        "{}\n{}: {isolated} isolated, {reached} reached, {refused} refused\n",
-        table(HEADING, rows.iter().map(row)),
-        counted(rows.len() as u32, "edge port", "edge ports"),
-    );
+    table(out, HEADING, rows.iter().map(row))?;
+    let ports = counted(rows.len() as u32, "edge port", "edge ports");
+    writeln!(
+        out,
+        "\n{ports}: {isolated} isolated, {reached} reached, {refused} refused"
+    )?;
     for row in rows {
         if let Err(refusal) = &row.verdict {
-            text += &format!("target {}: {refusal}\n", row.target.port);
+            writeln!(out, "target {}: {refusal}", row.target.port)?;
         }
     }
-    text
+    Ok(())
 }
 
 const HEADING: [&str; 6] = [
