@@ -7,6 +7,7 @@ mod dot;
 mod files;
 mod foreign;
 mod gate;
+mod inquiry;
 mod json;
 mod list;
 mod manual;
@@ -21,9 +22,10 @@ use std::io::{self, BufWriter, Write};
 use std::process::ExitCode;
 
 use arguments::Order;
-use json::Json;
+use inquiry::advice;
+use json::Members;
 
-use crate::refusal::{Question, Refusal};
+use crate::refusal::Refusal;
 
 /// Statuses: nothing foreign gets through, something does, no answer.
 const ISOLATED: u8 = 0;
@@ -39,8 +41,12 @@ type Output<'a> = &'a mut dyn Write;
 enum Failure {
     /// Bad use, a file that can't be read or written, a text that is wrong.
     Error(String),
-    /// A question got a no; with the file that was asked about.
-    Refused(String, Refusal),
+    /// A question got a no; with the file, and what else JSON says of it.
+    Refused {
+        file: String,
+        refusal: Refusal,
+        about: Members,
+    },
     /// The answer can't be written to standard output.
     Output(io::Error),
 }
@@ -56,7 +62,8 @@ impl From<io::Error> for Failure {
 /// is told, since nothing can be written there.
 pub fn main(words: impl Iterator<Item = OsString>, output_is_open: bool) -> ExitCode {
     let words: Vec<OsString> = words.collect();
-    let json = arguments::wants_json(&words);
+    let command = arguments::command_of(&words);
+    let json = arguments::wants_json(&words).then_some(command);
     let mut out = BufWriter::new(io::stdout().lock());
     let answered = match output_is_open {
         true => answer(words, &mut out),
@@ -90,37 +97,37 @@ fn perform(order: Order, out: Output) -> Result<u8, Failure> {
     }
 }
 
-/// A failure goes to standard error; if JSON is asked for, to standard output.
-fn report(failure: Failure, json: bool, out: Output) -> u8 {
-    let why = match &failure {
-        Failure::Refused(_, refusal) => Some(json::refused(refusal)),
-        Failure::Error(message) => Some(json::failed(message)),
-        Failure::Output(_) => None,
-    };
-    let why = why
-        .filter(|_| json)
-        .map(|why| Json::Object(vec![("refused", why)]));
-    let message = match (why, failure) {
-        (Some(why), _) => match writeln!(out, "{why}").and_then(|()| out.flush()) {
+/// A failure goes to standard error; where JSON is asked for, of a command if
+/// there is one, to standard output.
+fn report(failure: Failure, json: Option<Option<&str>>, out: Output) -> u8 {
+    let message = match (failure, json) {
+        (Failure::Output(error), _) => unwritten(&error),
+        (failure, Some(command)) => match in_json(failure, command, out) {
             Ok(()) => return NO_ANSWER,
             Err(error) => unwritten(&error),
         },
-        (None, failure) => in_words(failure),
+        (Failure::Error(message), None) => message,
+        (Failure::Refused { file, refusal, .. }, None) => match advice(&refusal) {
+            Some(advice) => format!("{file}: {refusal}; {advice}"),
+            None => format!("{file}: {refusal}"),
+        },
     };
     // Standard error may be closed; the status says it all the same.
     let _ = writeln!(io::stderr(), "mwishovala: {message}");
     NO_ANSWER
 }
 
-fn in_words(failure: Failure) -> String {
-    match failure {
-        Failure::Refused(file, refusal) if refusal.question == Question::Budget => {
-            format!("{file}: {refusal}; --budget gives it more")
-        }
-        Failure::Refused(file, refusal) => format!("{file}: {refusal}"),
-        Failure::Error(message) => message,
-        Failure::Output(error) => unwritten(&error),
-    }
+fn in_json(failure: Failure, command: Option<&str>, out: Output) -> io::Result<()> {
+    let (about, why) = match failure {
+        Failure::Refused { about, refusal, .. } => (about, json::refused(&refusal)),
+        Failure::Error(message) => (Members::new(), json::failed(&message)),
+        Failure::Output(error) => return Err(error),
+    };
+    let mut members = json::head(command);
+    members.extend(about);
+    members.push(("refused", why));
+    json::write(out, members)?;
+    out.flush()
 }
 
 fn unwritten(error: &io::Error) -> String {

@@ -73,6 +73,12 @@ pub(super) fn wants_json(words: &[OsString]) -> bool {
     before.any(|word| word == "--json")
 }
 
+/// The command that is asked for, if there is such a one.
+pub(super) fn command_of(words: &[OsString]) -> Option<&'static str> {
+    let command = words.first()?.to_str().and_then(Command::named)?;
+    Some(command.name)
+}
+
 /// The help and the version stand alone: a word too many is never passed over,
 /// since a status of 0 would then say what nobody asked.
 pub(super) fn parse(words: Vec<OsString>) -> Result<Order, Failure> {

@@ -4,8 +4,8 @@ mod report;
 
 use super::arguments::Audit;
 use super::foreign::Share;
-use super::threads;
-use super::{Failure, Output, ISOLATED, NO_ANSWER, REACHED};
+use super::inquiry::{Asked, Inquiry};
+use super::{threads, Failure, Output, ISOLATED, NO_ANSWER, REACHED};
 use crate::calls::{list_growing, verdict};
 use crate::fabric::Fabric;
 use crate::finds::Finds;
@@ -40,15 +40,20 @@ pub(super) fn audit(audit: &Audit, out: Output) -> Result<u8, Failure> {
     if fabric.edges.is_empty() {
         return Err(audit.file.failed(NOTHING_TO_ISOLATE));
     }
+    let inquiry = Inquiry {
+        command: "audit",
+        loaded: &loaded,
+        asked: Asked::EveryTarget(audit.query),
+    };
     let rows = threads::each(&fabric.edges, audit.jobs, "edge ports", |target| {
         Row::examine(file, fabric, target, &audit.query)
     })?;
     if let Some(refusal) = refused_for_all(&rows) {
-        return Err(audit.file.refused(refusal.clone()));
+        return Err(inquiry.refused(refusal.clone()));
     }
     match audit.json {
-        true => writeln!(out, "{}", report::in_json(&rows))?,
-        false => report::in_words(&rows, out)?,
+        true => report::in_json(&inquiry, &rows, out)?,
+        false => report::in_words(&inquiry, &rows, out)?,
     }
     Ok(if rows.iter().any(|row| row.verdict.is_err()) {
         NO_ANSWER

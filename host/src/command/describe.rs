@@ -2,7 +2,7 @@
 
 use std::fmt::Write;
 
-use crate::fabric::Fabric;
+use super::files::Loaded;
 use crate::field::Field;
 use crate::header::{Header, HeaderSet};
 use crate::record::Entry;
@@ -17,21 +17,24 @@ pub(super) fn packet(header: &Header) -> String {
 }
 
 /// Hop by hop, each entry with its ports, match and rewrite.
-pub(super) fn path(fabric: &Fabric, entries: &[u16]) -> String {
+pub(super) fn path(loaded: &Loaded, entries: &[u16]) -> String {
     let mut text = String::new();
     for (hop, &number) in entries.iter().enumerate() {
-        if let Some(entry) = fabric.entries.get(usize::from(number)) {
-            text += &one_hop(fabric, hop + 1, number, entry);
+        if let Some(entry) = loaded.fabric.entries.get(usize::from(number)) {
+            text += &one_hop(loaded, hop + 1, number, entry);
         }
     }
     text
 }
 
-fn one_hop(fabric: &Fabric, hop: usize, number: u16, entry: &Entry) -> String {
-    let (in_port, out_port) = (entry.in_port, entry.out_port);
-    let onward = match (out_port, fabric.link_from(out_port)) {
+fn one_hop(loaded: &Loaded, hop: usize, number: u16, entry: &Entry) -> String {
+    let (in_port, out_port) = (loaded.port(entry.in_port), loaded.port(entry.out_port));
+    let onward = match (entry.out_port, loaded.fabric.link_from(entry.out_port)) {
         (0, _) => "dropped".into(),
-        (_, Some(link)) => format!("out at port {out_port}, over the link to port {}", link.to),
+        (_, Some(link)) => {
+            let to = loaded.port(link.to);
+            format!("out at port {out_port}, over the link to port {to}")
+        }
         (_, None) => format!("out at port {out_port}, leaving the fabric"),
     };
     format!(
@@ -60,12 +63,9 @@ pub(super) fn counted(number: u32, one: &str, many: &str) -> String {
     format!("{number} {}", if number == 1 { one } else { many })
 }
 
-/// Numbers with commas between them; - if there are none.
-pub(super) fn numbers(numbers: impl IntoIterator<Item = u16>) -> String {
-    let texts: Vec<String> = numbers
-        .into_iter()
-        .map(|number| number.to_string())
-        .collect();
+/// With commas between them; - if there are none.
+pub(super) fn listed(items: impl IntoIterator<Item: ToString>) -> String {
+    let texts: Vec<String> = items.into_iter().map(|item| item.to_string()).collect();
     match texts.is_empty() {
         true => "-".into(),
         false => texts.join(", "),

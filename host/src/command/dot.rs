@@ -6,61 +6,125 @@ use std::collections::BTreeMap;
 use std::fmt::Write;
 
 use super::arguments::Picture;
+use super::files::Loaded;
+use super::inquiry::{Asked, Inquiry};
+use super::manual::VERSION;
 use super::{describe, threads, Failure, Output, DONE};
 use crate::calls::verdict;
-use crate::fabric::Fabric;
+use crate::header::HeaderSet;
+use crate::query::Query;
+use crate::record::Entry;
 use crate::verdict::Verdict;
 use switches::switches;
 
+/// What a foreign packet takes, and a target that none gets to.
 const MARKED: &str = "color=red fontcolor=red penwidth=3";
+const SAFE: &str = "color=green fontcolor=green penwidth=3";
 /// More entries than these aren't named on one arrow.
 const MOST_NAMED: usize = 6;
+/// A fabric file names no switches.
+const GUESSED: &str = "dashed boxes are guessed: ports that entries join";
+
+/// What is marked.
+struct Marks {
+    target: u32,
+    /// What the target is, in words, and how it is drawn.
+    judged: String,
+    style: &'static str,
+    way: Vec<u16>,
+}
 
 pub(super) fn dot(picture: &Picture, out: Output) -> Result<u8, Failure> {
     let loaded = picture.file.load()?;
-    let (file, fabric) = (&loaded.bytes, &loaded.fabric);
-    let mut way = Vec::new();
-    if let Some(query) = &picture.query {
-        let verdict = threads::call(|| verdict(file, query))?
-            .map_err(|refusal| picture.file.refused(refusal))?;
-        if let Verdict::Reached { entries, .. } = verdict {
-            way = entries.to_vec();
+    let text = match picture.query {
+        None => {
+            let (file, digest) = (&loaded.name, loaded.digest);
+            let said = format!("// {file}, sha256 {digest}, by mwishovala {VERSION}\n");
+            said + &draw(&loaded, None)
         }
-    }
-    out.write_all(draw(fabric, &way).as_bytes())?;
+        Some(query) => {
+            let inquiry = Inquiry {
+                command: "dot",
+                loaded: &loaded,
+                asked: Asked::Target(query),
+            };
+            let marks = judge(&inquiry, &query)?;
+            let said = inquiry.lines().into_iter();
+            let said: String = said.map(|line| format!("// {line}\n")).collect();
+            said + &draw(&loaded, Some(&marks))
+        }
+    };
+    out.write_all(text.as_bytes())?;
     Ok(DONE)
 }
 
-/// Ports are nodes, in a box with the ports that entries join them to: their
-/// switch. Links and entries are arrows; those of the way are marked.
-fn draw(fabric: &Fabric, way: &[u16]) -> String {
+fn judge(inquiry: &Inquiry, query: &Query) -> Result<Marks, Failure> {
+    let verdict = threads::call(|| verdict(&inquiry.loaded.bytes, query))?
+        .map_err(|refusal| inquiry.refused(refusal))?;
+    let target = query.port;
+    Ok(match verdict {
+        Verdict::Isolated { .. } => Marks {
+            target,
+            judged: format!("isolated{}", inquiry.only()),
+            style: SAFE,
+            way: Vec::new(),
+        },
+        Verdict::Reached { entries, .. } => Marks {
+            target,
+            judged: "reached".into(),
+            style: MARKED,
+            way: entries.to_vec(),
+        },
+    })
+}
+
+/// Ports are nodes, in a box with the other ports of their switch. Links and
+/// entries are arrows; those of the way are marked.
+fn draw(loaded: &Loaded, marks: Option<&Marks>) -> String {
+    let switches = switches(&loaded.fabric, &loaded.names);
     let mut text = String::from("digraph fabric {\n  rankdir=LR;\n  node [shape=circle];\n");
-    for (number, ports) in switches(fabric).iter().enumerate() {
+    if switches.iter().any(|switch| switch.name.is_none()) {
+        let _ = writeln!(text, "  label=\"{GUESSED}\";");
+    }
+    for (number, switch) in switches.iter().enumerate() {
         let _ = writeln!(text, "  subgraph cluster_{number} {{");
-        for &port in ports {
-            let _ = writeln!(text, "    {port}{};", node(fabric, port));
+        let _ = match &switch.name {
+            Some(name) => writeln!(text, "    label=\"{name}\";"),
+            None => writeln!(text, "    label=\"\";\n    style=dashed;"),
+        };
+        for &port in &switch.ports {
+            let _ = writeln!(text, "    {port}{};", node(loaded, marks, port));
         }
         text += "  }\n";
     }
-    text += &links(fabric, way);
-    text += &marked(fabric, way);
-    text += &others(fabric, way);
-    text += "}\n";
-    text
+    let way = marks.map_or(&[][..], |marks| &marks.way);
+    text += &links(loaded, way);
+    text += &marked(loaded, way);
+    text += &others(loaded, way);
+    text + "}\n"
 }
 
-fn node(fabric: &Fabric, port: u16) -> String {
-    match fabric.edge(port) {
-        Some(edge) => format!(" [shape=box label=\"{port}\\ngroup {}\"]", edge.group),
-        None => String::new(),
+fn node(loaded: &Loaded, marks: Option<&Marks>, port: u16) -> String {
+    let mut lines = vec![port.to_string()];
+    lines.extend(loaded.names.of_port(port).map(String::from));
+    let edge = loaded.fabric.edge(port);
+    lines.extend(edge.map(|edge| format!("group {}", edge.group)));
+    let shape = edge.map_or("", |_| "shape=box ");
+    let mark = marks.filter(|marks| marks.target == u32::from(port));
+    lines.extend(mark.map(|mark| mark.judged.clone()));
+    match (lines.len(), mark) {
+        (1, None) => String::new(),
+        (_, None) => format!(" [{shape}label=\"{}\"]", lines.join("\\n")),
+        (_, Some(mark)) => format!(" [{shape}label=\"{}\" {}]", lines.join("\\n"), mark.style),
     }
 }
 
-fn links(fabric: &Fabric, way: &[u16]) -> String {
-    let out_port = |&number: &u16| Some(fabric.entries.get(usize::from(number))?.out_port);
+fn links(loaded: &Loaded, way: &[u16]) -> String {
+    let entries = &loaded.fabric.entries;
+    let out_port = |&number: &u16| Some(entries.get(usize::from(number))?.out_port);
     let used: Vec<u16> = way.iter().filter_map(out_port).collect();
     let mut text = String::new();
-    for link in &fabric.links {
+    for link in &loaded.fabric.links {
         let mark = match used.contains(&link.from) {
             true => MARKED,
             false => "penwidth=2",
@@ -71,16 +135,15 @@ fn links(fabric: &Fabric, way: &[u16]) -> String {
 }
 
 /// The way's entries, an arrow for each hop.
-fn marked(fabric: &Fabric, way: &[u16]) -> String {
+fn marked(loaded: &Loaded, way: &[u16]) -> String {
     let mut text = String::new();
     for (hop, &number) in way.iter().enumerate() {
-        if let Some(entry) = fabric.entries.get(usize::from(number)) {
+        if let Some(entry) = loaded.fabric.entries.get(usize::from(number)) {
+            let (in_port, out_port) = (entry.in_port, entry.out_port);
+            let label = format!("hop {}: entry {}", hop + 1, named(number, entry));
             let _ = writeln!(
                 text,
-                "  {} -> {} [label=\"hop {}: entry {number}\" {MARKED}];",
-                entry.in_port,
-                entry.out_port,
-                hop + 1
+                "  {in_port} -> {out_port} [label=\"{label}\" {MARKED}];"
             );
         }
     }
@@ -89,17 +152,17 @@ fn marked(fabric: &Fabric, way: &[u16]) -> String {
 
 /// The other entries, an arrow for all that have the same ports. A drop's arrow
 /// goes to a point of its in-port's own.
-fn others(fabric: &Fabric, way: &[u16]) -> String {
-    let mut arrows: BTreeMap<(u16, u16), Vec<u16>> = BTreeMap::new();
-    for (number, entry) in (0..).zip(&fabric.entries) {
+fn others(loaded: &Loaded, way: &[u16]) -> String {
+    let mut arrows: BTreeMap<(u16, u16), Vec<String>> = BTreeMap::new();
+    for (number, entry) in (0..).zip(&loaded.fabric.entries) {
         if !way.contains(&number) {
             let ports = (entry.in_port, entry.out_port);
-            arrows.entry(ports).or_default().push(number);
+            arrows.entry(ports).or_default().push(named(number, entry));
         }
     }
     let mut text = String::new();
     for ((in_port, out_port), entries) in arrows {
-        let mut label = describe::numbers(entries.iter().copied().take(MOST_NAMED));
+        let mut label = describe::listed(entries.iter().take(MOST_NAMED));
         if entries.len() > MOST_NAMED {
             label += ", …";
         }
@@ -116,4 +179,12 @@ fn others(fabric: &Fabric, way: &[u16]) -> String {
         };
     }
     text
+}
+
+/// An entry's number, and what it rewrites.
+fn named(number: u16, entry: &Entry) -> String {
+    match entry.rewrite == HeaderSet::ALL_WILD {
+        true => number.to_string(),
+        false => format!("{number} (set {})", entry.rewrite),
+    }
 }

@@ -7,12 +7,16 @@ use std::os::fd::AsFd;
 use std::os::unix::fs::MetadataExt;
 use std::path::Path;
 
+use super::json::{self, Json, Members};
+use super::manual::VERSION;
 use super::replace::replace;
 use super::{Failure, Output, DONE};
 use crate::digest::Digest;
 use crate::fabric::Fabric;
+use crate::limits::MOST_PORT;
+use crate::names::Names;
 use crate::refusal::{Question, Refusal};
-use crate::text;
+use crate::text::{self, Packed};
 
 /// Longer input is no fabric and no text of one.
 const MOST_BYTES: u64 = 16 << 20;
@@ -24,7 +28,7 @@ impl Source {
     pub(super) fn name(&self) -> String {
         match self.is_standard() {
             true => "standard input".into(),
-            false => self.0.to_string_lossy().into_owned(),
+            false => printable(&self.0),
         }
     }
 
@@ -71,27 +75,95 @@ impl Source {
         let bytes = self.read()?;
         match Fabric::read(&bytes) {
             Ok(fabric) => Ok(Loaded {
+                name: self.name(),
                 digest: Digest::of(&bytes),
+                names: self.names()?,
                 bytes,
                 fabric,
             }),
-            Err(refusal) if looks_like_text(&bytes, &refusal) => {
-                Err(self.failed(&format!("{refusal}; it looks like text: pack it first")))
-            }
-            Err(refusal) => Err(self.refused(refusal)),
+            Err(refusal) => Err(Failure::Refused {
+                file: self.name(),
+                about: vec![("fabric", named(&self.name(), &Digest::of(&bytes)))],
+                refusal: match looks_like_text(&bytes, &refusal) {
+                    true => Refusal {
+                        reason: format!("{}; it looks like text: pack it first", refusal.reason),
+                        ..refusal
+                    },
+                    false => refusal,
+                },
+            }),
         }
     }
 
-    pub(super) fn refused(&self, refusal: Refusal) -> Failure {
-        Failure::Refused(self.name(), refusal)
+    /// The names that are kept beside it.
+    fn names(&self) -> Result<Names, Failure> {
+        match self.is_standard() {
+            true => Ok(Names::default()),
+            false => Names::beside(self.0.as_ref())
+                .map_err(|unreadable| Failure::Error(unreadable.to_string())),
+        }
     }
 }
 
 /// A fabric that was read once: all that is said of it is about these bytes.
 pub(super) struct Loaded {
+    pub(super) name: String,
     pub(super) bytes: Vec<u8>,
     pub(super) fabric: Fabric,
     pub(super) digest: Digest,
+    pub(super) names: Names,
+}
+
+impl Loaded {
+    /// A port's number, with its names.
+    pub(super) fn port(&self, port: impl Into<u32>) -> String {
+        let number = port.into();
+        match u16::try_from(number) {
+            Ok(port) => self.names.port(port).to_string(),
+            Err(_) => number.to_string(),
+        }
+    }
+
+    /// The file, and what is named there.
+    pub(super) fn in_json(&self) -> Members {
+        vec![
+            ("fabric", named(&self.name, &self.digest)),
+            ("names", self.names_in_json()),
+        ]
+    }
+
+    fn names_in_json(&self) -> Json {
+        let ports = (1..=MOST_PORT).filter_map(|port| {
+            let name = self.names.of_port(port)?;
+            Some((port.to_string(), json::text(name)))
+        });
+        let switches = self.names.switches().map(|(name, ports)| {
+            let ports = json::list(ports.map(json::number));
+            (name.to_string(), ports)
+        });
+        Json::Object(vec![
+            ("ports", Json::Map(ports.collect())),
+            ("switches", Json::Map(switches.collect())),
+        ])
+    }
+}
+
+/// A file by its name and its digest.
+fn named(file: &str, digest: &Digest) -> Json {
+    Json::Object(vec![
+        ("file", json::text(file)),
+        ("sha256", json::text(digest)),
+    ])
+}
+
+/// A file's name, without characters that would move a cursor or end a line.
+fn printable(name: &OsStr) -> String {
+    let name = name.to_string_lossy();
+    let shown = name.chars().map(|character| match character.is_control() {
+        true => character.escape_default().to_string(),
+        false => character.to_string(),
+    });
+    shown.collect()
 }
 
 fn looks_like_text(bytes: &[u8], refusal: &Refusal) -> bool {
@@ -102,25 +174,43 @@ fn looks_like_text(bytes: &[u8], refusal: &Refusal) -> bool {
 
 pub(super) fn show(file: &Source, out: Output) -> Result<u8, Failure> {
     let loaded = file.load()?;
-    out.write_all(text::show(&loaded.fabric).as_bytes())?;
+    writeln!(out, "# mwishovala {VERSION}, sha256 {}", loaded.digest)?;
+    let text = text::show_named(&loaded.fabric, &loaded.names);
+    out.write_all(text.as_bytes())?;
     Ok(DONE)
 }
 
 /// Nothing is written unless all of the text is right, and never over it.
 pub(super) fn pack(text: &Source, file: &OsStr, out: Output) -> Result<u8, Failure> {
     let name = text.name();
-    let failed = |error: &str| Failure::Error(format!("{}: {error}", file.to_string_lossy()));
+    let failed = |error: &str| Failure::Error(format!("{}: {error}", printable(file)));
     if text.is_the_file(file.as_ref()) {
         return Err(failed("it is the text itself, which would be lost"));
     }
     let bytes = text.read()?;
     let said = String::from_utf8(bytes)
         .map_err(|_| Failure::Error(format!("{name}: it isn't text (UTF-8)")))?;
-    let packed = text::pack(&said).map_err(|wrong| Failure::Error(format!("{name}:{wrong}")))?;
+    let Packed {
+        file: packed,
+        names,
+        ..
+    } = text::pack_named(&said).map_err(|wrong| Failure::Error(format!("{name}:{wrong}")))?;
     if file == "-" {
         out.write_all(&packed)?;
         return Ok(DONE);
     }
+    // Names first: beside a fabric without them they are harmless.
+    if !names.is_empty() {
+        let beside = Names::file_of(file.as_ref());
+        let failed = |error| Failure::Error(format!("{}: {error}", beside.display()));
+        replace(&beside, names.to_string().as_bytes()).map_err(failed)?;
+    }
     replace(file.as_ref(), &packed).map_err(|error| failed(&error.to_string()))?;
+    let digest = Digest::of(&packed);
+    writeln!(
+        out,
+        "packed {}, sha256 {digest}, by mwishovala {VERSION}",
+        printable(file)
+    )?;
     Ok(DONE)
 }

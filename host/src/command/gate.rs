@@ -1,6 +1,7 @@
 //! `mwishovala gate`: what a mount hangs on.
 
 use super::arguments::Gate;
+use super::inquiry::{Asked, Inquiry};
 use super::{threads, Failure, Output, ISOLATED, REACHED};
 use crate::calls::verdict;
 use crate::query::Query;
@@ -13,8 +14,13 @@ pub(super) fn gate(gate: &Gate, out: Output) -> Result<u8, Failure> {
         budget: gate.budget,
         ..Query::all_wild(gate.target)
     };
+    let inquiry = Inquiry {
+        command: "gate",
+        loaded: &loaded,
+        asked: Asked::Target(query),
+    };
     let verdict = threads::call(|| verdict(&loaded.bytes, &query))?
-        .map_err(|refusal| gate.file.refused(refusal))?;
+        .map_err(|refusal| inquiry.refused(refusal))?;
     let (target, hops, digest) = (query.port, query.hops, loaded.digest);
     match verdict {
         Verdict::Isolated { .. } => {

@@ -1,8 +1,10 @@
-//! Answers for programs.
+//! Answers for programs. `docs/JSON.md` has each with an example.
 
 use std::fmt;
 
-use super::describe::rewrite;
+use super::inquiry::advice;
+use super::manual::VERSION;
+use super::Output;
 use crate::fabric::Fabric;
 use crate::field::Field;
 use crate::header::{Header, HeaderSet};
@@ -11,35 +13,60 @@ use crate::refusal::Refusal;
 /// A JSON value.
 pub(super) enum Json {
     Null,
+    Truth(bool),
     Number(u64),
     Text(String),
     List(Vec<Json>),
-    Object(Vec<(&'static str, Json)>),
+    Object(Members),
+    /// Its members have names that are no words of ours.
+    Map(Vec<(String, Json)>),
 }
+
+/// What an object has.
+pub(super) type Members = Vec<(&'static str, Json)>;
 
 impl fmt::Display for Json {
     fn fmt(&self, f: &mut fmt::Formatter) -> fmt::Result {
         match self {
             Json::Null => f.write_str("null"),
+            Json::Truth(truth) => write!(f, "{truth}"),
             Json::Number(number) => write!(f, "{number}"),
             Json::Text(text) => write_text(f, text),
             Json::List(values) => {
                 f.write_str("[")?;
                 for (place, value) in values.iter().enumerate() {
-                    let comma = if place == 0 { "" } else { "," };
-                    write!(f, "{comma}{value}")?;
+                    write!(f, "{}{value}", comma(place))?;
                 }
                 f.write_str("]")
             }
             Json::Object(members) => {
-                f.write_str("{")?;
-                for (place, (name, value)) in members.iter().enumerate() {
-                    let comma = if place == 0 { "" } else { "," };
-                    write!(f, "{comma}\"{name}\":{value}")?;
-                }
-                f.write_str("}")
+                write_members(f, members.iter().map(|(name, value)| (*name, value)))
+            }
+            Json::Map(members) => {
+                write_members(f, members.iter().map(|(name, value)| (&name[..], value)))
             }
         }
+    }
+}
+
+fn write_members<'j>(
+    f: &mut fmt::Formatter,
+    members: impl Iterator<Item = (&'j str, &'j Json)>,
+) -> fmt::Result {
+    f.write_str("{")?;
+    for (place, (name, value)) in members.enumerate() {
+        f.write_str(comma(place))?;
+        write_text(f, name)?;
+        write!(f, ":{value}")?;
+    }
+    f.write_str("}")
+}
+
+/// What stands before the value at this place.
+pub(super) fn comma(place: usize) -> &'static str {
+    match place {
+        0 => "",
+        _ => ",",
     }
 }
 
@@ -67,23 +94,54 @@ pub(super) fn list(values: impl Iterator<Item = Json>) -> Json {
     Json::List(values.collect())
 }
 
+/// An answer on a line of its own.
+pub(super) fn write(out: Output, members: Members) -> std::io::Result<()> {
+    writeln!(out, "{}", Json::Object(members))
+}
+
+/// How every answer begins.
+pub(super) fn head(command: Option<&str>) -> Members {
+    vec![
+        ("command", command.map_or(Json::Null, text)),
+        ("version", text(VERSION)),
+    ]
+}
+
 /// Addresses are text, other fields numbers.
 pub(super) fn header(header: &Header) -> Json {
-    let value = |field: Field| match field.is_address() {
-        true => Json::Text(header.in_words(field)),
-        false => number(header.get(field)),
-    };
+    let value = |field: Field| of_field(field, header);
     Json::Object(Field::ALL.map(|field| (field.name(), value(field))).into())
 }
 
-/// In words, and as document 01's care and value.
+fn of_field(field: Field, header: &Header) -> Json {
+    match field.is_address() {
+        true => Json::Text(header.in_words(field)),
+        false => number(header.get(field)),
+    }
+}
+
+/// In words, field by field where it cares, and as document 01's care and value.
 pub(super) fn set(set: &HeaderSet) -> Json {
     let words = |words: &[u32; 4]| list(words.iter().map(|word| text(format!("{word:08x}"))));
     Json::Object(vec![
-        ("words", text(set)),
+        ("text", text(set)),
+        ("fields", fields(set)),
         ("care", words(&set.care)),
         ("value", words(&set.value)),
     ])
+}
+
+fn fields(set: &HeaderSet) -> Json {
+    let (value, mask) = (Header(set.value), Header(set.care));
+    let cared_for = Field::ALL.into_iter().filter(|field| mask.get(*field) != 0);
+    let part = |field: Field| {
+        let members = vec![
+            ("value", of_field(field, &value)),
+            ("mask", of_field(field, &mask)),
+        ];
+        (field.name(), Json::Object(members))
+    };
+    Json::Object(cared_for.map(part).collect())
 }
 
 /// Entries by their numbers, with what they say.
@@ -95,20 +153,21 @@ pub(super) fn path(fabric: &Fabric, entries: &[u16]) -> Json {
                 ("in_port", number(entry.in_port)),
                 ("out_port", number(entry.out_port)),
                 ("priority", number(entry.priority)),
-                ("match", text(entry.matching)),
-                ("rewrite", text(rewrite(entry))),
+                ("match", set(&entry.matching)),
+                ("rewrite", set(&entry.rewrite)),
             ]);
         }
         Json::Object(members)
     }))
 }
 
-/// Why there is no answer: a refusal by the library.
+/// Why there is no answer: a no of the library.
 pub(super) fn refused(refusal: &Refusal) -> Json {
     Json::Object(vec![
-        ("question", number(refusal.question.number() as u64)),
+        ("question", number(refusal.question.number())),
         ("place", number(refusal.place)),
         ("reason", text(&refusal.reason)),
+        ("try", advice(refusal).map_or(Json::Null, text)),
     ])
 }
 
@@ -118,5 +177,6 @@ pub(super) fn failed(reason: &str) -> Json {
         ("question", Json::Null),
         ("place", Json::Null),
         ("reason", text(reason)),
+        ("try", Json::Null),
     ])
 }

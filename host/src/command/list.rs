@@ -1,14 +1,16 @@
-//! `mwishovala list`.
+//! `mwishovala list`. Finds are written one after the other: there may be
+//! millions.
 
 use std::io;
 
 use super::arguments::Asked;
+use super::files::Loaded;
 use super::foreign::Share;
+use super::inquiry::{self, Inquiry};
 use super::json::{self, Json};
 use super::table::table;
 use super::{describe, threads, Failure, Output, DONE};
 use crate::calls::list_growing;
-use crate::fabric::Fabric;
 use crate::finds::{Find, Finds};
 
 /// The most bytes that a list may take.
@@ -16,57 +18,77 @@ const MOST_AREA: usize = 256 << 20;
 
 pub(super) fn list(asked: &Asked, out: Output) -> Result<u8, Failure> {
     let loaded = asked.file.load()?;
-    let (file, fabric) = (&loaded.bytes, &loaded.fabric);
+    let inquiry = Inquiry {
+        command: "list",
+        loaded: &loaded,
+        asked: inquiry::Asked::Target(asked.query),
+    };
     let mut area = Vec::new();
-    let finds = threads::call(|| list_growing(file, &mut area, MOST_AREA, &asked.query))?
-        .map_err(|refusal| asked.file.refused(refusal))?;
+    let finds = threads::call(|| list_growing(&loaded.bytes, &mut area, MOST_AREA, &asked.query))?
+        .map_err(|refusal| inquiry.refused(refusal))?;
     let target = asked.query.port;
-    match (asked.json, finds.clone().next()) {
-        (true, _) => in_json(out, fabric, target, finds)?,
-        (false, None) => writeln!(out, "nothing gets out at port {target}")?,
-        (false, Some(_)) => table(out, HEADING, finds.map(|find| row(fabric, target, &find)))?,
+    match asked.json {
+        true => in_json(out, &inquiry, target, finds)?,
+        false => in_words(out, &inquiry, target, finds)?,
     }
     Ok(DONE)
+}
+
+fn in_words(out: Output, inquiry: &Inquiry, target: u32, finds: Finds) -> io::Result<()> {
+    let loaded = inquiry.loaded;
+    let (port, only) = (loaded.port(target), inquiry.only());
+    match finds.clone().count() {
+        0 => writeln!(out, "nothing gets out at port {port}{only}")?,
+        count => {
+            let finds_of = if count == 1 { "find" } else { "finds" };
+            writeln!(out, "{count} {finds_of} at port {port}{only}\n")?;
+            table(out, HEADING, finds.map(|find| row(loaded, target, &find)))?;
+        }
+    }
+    inquiry.in_words(out)
 }
 
 const HEADING: [&str; 6] = ["from", "group", "whose", "hops", "entries", "headers"];
 
 /// The find's group, and whose packets it holds.
-fn whose(fabric: &Fabric, target: u32, find: &Find) -> Option<(u16, Share)> {
-    let edge = fabric.edge(find.port)?;
-    let target = fabric.edge(u16::try_from(target).ok()?)?;
+fn whose(loaded: &Loaded, target: u32, find: &Find) -> Option<(u16, Share)> {
+    let edge = loaded.fabric.edge(find.port)?;
+    let target = loaded.fabric.edge(u16::try_from(target).ok()?)?;
     Some((edge.group, Share::of(find, edge, target)))
 }
 
-fn row(fabric: &Fabric, target: u32, find: &Find) -> [String; 6] {
-    let (group, share) = match whose(fabric, target, find) {
+fn row(loaded: &Loaded, target: u32, find: &Find) -> [String; 6] {
+    let (group, share) = match whose(loaded, target, find) {
         Some((group, share)) => (group.to_string(), share.name()),
         None => ("-".into(), "-"),
     };
     [
-        find.port.to_string(),
+        loaded.port(find.port),
         group,
         share.into(),
         find.hops.to_string(),
-        describe::numbers(find.entries.iter().copied()),
+        describe::listed(&find.entries[..]),
         find.set.to_string(),
     ]
 }
 
-/// One find after the other: there may be millions.
-fn in_json(out: Output, fabric: &Fabric, target: u32, finds: Finds) -> io::Result<()> {
-    out.write_all(b"{\"finds\":[")?;
+fn in_json(out: Output, inquiry: &Inquiry, target: u32, finds: Finds) -> io::Result<()> {
+    out.write_all(b"{")?;
+    for (name, value) in inquiry.in_json() {
+        write!(out, "{}:{value},", json::text(name))?;
+    }
+    out.write_all(b"\"finds\":[")?;
     for (place, find) in finds.enumerate() {
-        let comma = if place == 0 { "" } else { "," };
-        write!(out, "{comma}{}", find_in_json(fabric, target, &find))?;
+        let find = find_in_json(inquiry.loaded, target, &find);
+        write!(out, "{}{find}", json::comma(place))?;
     }
     out.write_all(b"]}\n")
 }
 
-fn find_in_json(fabric: &Fabric, target: u32, find: &Find) -> Json {
+fn find_in_json(loaded: &Loaded, target: u32, find: &Find) -> Json {
     let entries = find.entries.iter().map(|&entry| json::number(entry));
     let mut members = vec![("port", json::number(find.port))];
-    if let Some((group, share)) = whose(fabric, target, find) {
+    if let Some((group, share)) = whose(loaded, target, find) {
         members.push(("group", json::number(group)));
         members.push(("whose", json::text(share.name())));
     }

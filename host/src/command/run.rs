@@ -1,26 +1,40 @@
 //! `mwishovala run`.
 
 use super::arguments::Packet;
-use super::json::{self, Json};
+use super::files::Loaded;
+use super::inquiry::{Asked, Inquiry};
+use super::json::{self, Members};
 use super::{describe, threads, Failure, Output, DONE};
 use crate::calls;
-use crate::fabric::Fabric;
 use crate::run::{Fate, Run};
 
 pub(super) fn run(packet: &Packet, out: Output) -> Result<u8, Failure> {
     let loaded = packet.file.load()?;
-    let (file, fabric) = (&loaded.bytes, &loaded.fabric);
-    let run = threads::call(|| calls::run(file, packet.start, packet.header, packet.hops))?
-        .map_err(|refusal| packet.file.refused(refusal))?;
-    match packet.json {
-        true => writeln!(out, "{}", in_json(fabric, &run))?,
-        false => write!(out, "{}", in_words(fabric, &run))?,
+    let (start, header, hops) = (packet.start, packet.header, packet.hops);
+    let inquiry = Inquiry {
+        command: "run",
+        loaded: &loaded,
+        asked: Asked::Packet {
+            start,
+            header,
+            hops,
+        },
+    };
+    let run = threads::call(|| calls::run(&loaded.bytes, start, header, hops))?
+        .map_err(|refusal| inquiry.refused(refusal))?;
+    if packet.json {
+        let mut members = inquiry.in_json();
+        members.extend(in_json(&loaded, &run));
+        json::write(out, members)?;
+    } else {
+        out.write_all(in_words(&loaded, &run).as_bytes())?;
+        inquiry.in_words(out)?;
     }
     Ok(DONE)
 }
 
-fn in_words(fabric: &Fabric, run: &Run) -> String {
-    let (port, hops) = (run.port, describe::hops(run.hops));
+fn in_words(loaded: &Loaded, run: &Run) -> String {
+    let (port, hops) = (loaded.port(run.port), describe::hops(run.hops));
     let fate = match run.fate {
         Fate::Left => format!("left: the packet gets out at port {port} after {hops}"),
         Fate::Dropped => format!("dropped: at port {port}, with hop {}", run.hops),
@@ -31,7 +45,7 @@ fn in_words(fabric: &Fabric, run: &Run) -> String {
         0 => String::new(),
         _ => format!(
             "\nit took this way\n{}",
-            describe::path(fabric, &run.entries)
+            describe::path(loaded, &run.entries)
         ),
     };
     format!(
@@ -40,18 +54,18 @@ fn in_words(fabric: &Fabric, run: &Run) -> String {
     )
 }
 
-fn in_json(fabric: &Fabric, run: &Run) -> Json {
+fn in_json(loaded: &Loaded, run: &Run) -> Members {
     let fate = match run.fate {
         Fate::Left => "left",
         Fate::Dropped => "dropped",
         Fate::Lost => "lost",
         Fate::Travelling => "travelling",
     };
-    Json::Object(vec![
+    vec![
         ("fate", json::text(fate)),
         ("port", json::number(run.port)),
         ("hops", json::number(run.hops)),
         ("header", json::header(&run.header)),
-        ("path", json::path(fabric, &run.entries)),
-    ])
+        ("path", json::path(&loaded.fabric, &run.entries)),
+    ]
 }

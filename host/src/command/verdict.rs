@@ -1,21 +1,29 @@
 //! `mwishovala verdict`.
 
 use super::arguments::Asked;
-use super::json::{self, Json};
+use super::inquiry::{self, Inquiry};
+use super::json::{self, Members};
 use super::{describe, threads, Failure, Output, ISOLATED, REACHED};
 use crate::calls;
-use crate::fabric::Fabric;
 use crate::query::Query;
 use crate::verdict::Verdict;
 
 pub(super) fn verdict(asked: &Asked, out: Output) -> Result<u8, Failure> {
     let loaded = asked.file.load()?;
-    let (file, fabric) = (&loaded.bytes, &loaded.fabric);
-    let verdict = threads::call(|| calls::verdict(file, &asked.query))?
-        .map_err(|refusal| asked.file.refused(refusal))?;
-    match asked.json {
-        true => writeln!(out, "{}", in_json(fabric, &verdict))?,
-        false => write!(out, "{}", in_words(fabric, &asked.query, &verdict))?,
+    let inquiry = Inquiry {
+        command: "verdict",
+        loaded: &loaded,
+        asked: inquiry::Asked::Target(asked.query),
+    };
+    let verdict = threads::call(|| calls::verdict(&loaded.bytes, &asked.query))?
+        .map_err(|refusal| inquiry.refused(refusal))?;
+    if asked.json {
+        let mut members = inquiry.in_json();
+        members.extend(in_json(&inquiry, &verdict));
+        json::write(out, members)?;
+    } else {
+        out.write_all(in_words(&inquiry, &asked.query, &verdict).as_bytes())?;
+        inquiry.in_words(out)?;
     }
     Ok(match verdict {
         Verdict::Isolated { .. } => ISOLATED,
@@ -23,14 +31,17 @@ pub(super) fn verdict(asked: &Asked, out: Output) -> Result<u8, Failure> {
     })
 }
 
-fn in_words(fabric: &Fabric, query: &Query, verdict: &Verdict) -> String {
-    let target = query.port;
+fn in_words(inquiry: &Inquiry, query: &Query, verdict: &Verdict) -> String {
+    let loaded = inquiry.loaded;
+    let target = loaded.port(query.port);
     match verdict {
         Verdict::Isolated { units } => {
             let units = describe::counted(*units, "unit", "units");
             let hops = describe::hops(query.hops);
+            let only = inquiry.only();
             format!(
-                "isolated: no foreign packet gets out at port {target} within {hops} ({units})\n"
+                "isolated{only}: no foreign IPv4 packet gets out at port {target} \
+                 within {hops} ({units})\n"
             )
         }
         Verdict::Reached {
@@ -44,16 +55,18 @@ fn in_words(fabric: &Fabric, query: &Query, verdict: &Verdict) -> String {
             let hops = describe::hops(*hops);
             format!(
                 "reached: a foreign packet gets out at port {target} after {hops} ({units})\n\n\
-                 it starts at port {port}{}\n{}\nand takes this way\n{}",
-                why_foreign(fabric, *port, target),
+                 it starts at port {}{}\n{}\nand takes this way\n{}",
+                loaded.port(*port),
+                why_foreign(inquiry, *port, query.port),
                 describe::packet(header),
-                describe::path(fabric, entries),
+                describe::path(loaded, entries),
             )
         }
     }
 }
 
-fn why_foreign(fabric: &Fabric, port: u16, target: u32) -> String {
+fn why_foreign(inquiry: &Inquiry, port: u16, target: u32) -> String {
+    let fabric = &inquiry.loaded.fabric;
     let target = u16::try_from(target)
         .ok()
         .and_then(|target| fabric.edge(target));
@@ -72,25 +85,26 @@ fn why_foreign(fabric: &Fabric, port: u16, target: u32) -> String {
     }
 }
 
-fn in_json(fabric: &Fabric, verdict: &Verdict) -> Json {
+/// A verdict's part of an answer, of one target or of a row.
+pub(super) fn in_json(inquiry: &Inquiry, verdict: &Verdict) -> Members {
     match verdict {
-        Verdict::Isolated { units } => Json::Object(vec![
+        Verdict::Isolated { units } => vec![
             ("verdict", json::text("isolated")),
             ("units", json::number(*units)),
-        ]),
+        ],
         Verdict::Reached {
             units,
             port,
             hops,
             header,
             entries,
-        } => Json::Object(vec![
+        } => vec![
             ("verdict", json::text("reached")),
             ("units", json::number(*units)),
             ("port", json::number(*port)),
             ("hops", json::number(*hops)),
             ("header", json::header(header)),
-            ("path", json::path(fabric, entries)),
-        ]),
+            ("path", json::path(&inquiry.loaded.fabric, entries)),
+        ],
     }
 }

@@ -2,29 +2,38 @@
 
 use std::io;
 
-use super::super::describe::{counted, numbers};
+use super::super::describe::{counted, listed};
+use super::super::files::Loaded;
+use super::super::inquiry::{advice, Inquiry};
 use super::super::json::{self, Json};
 use super::super::table::table;
-use super::super::Output;
-use super::Row;
+use super::super::{verdict, Output};
+use super::{Row, Senders};
 use crate::verdict::Verdict;
 
-pub(super) fn in_words(rows: &[Row], out: Output) -> io::Result<()> {
+pub(super) fn in_words(inquiry: &Inquiry, rows: &[Row], out: Output) -> io::Result<()> {
     let reached = rows.iter().filter(|row| row.is_reached()).count();
     let refused = rows.iter().filter(|row| row.verdict.is_err()).count();
     let isolated = rows.len() - reached - refused;
-    table(out, HEADING, rows.iter().map(row))?;
     let ports = counted(rows.len() as u32, "edge port", "edge ports");
+    let only = inquiry.only();
     writeln!(
         out,
-        "\n{ports}: {isolated} isolated, {reached} reached, {refused} refused"
+        "{ports}{only}: {isolated} isolated, {reached} reached, {refused} refused\n"
     )?;
+    let loaded = inquiry.loaded;
+    table(out, HEADING, rows.iter().map(|row| cells(loaded, row)))?;
     for row in rows {
         if let Err(refusal) = &row.verdict {
-            writeln!(out, "target {}: {refusal}", row.target.port)?;
+            let advice = advice(refusal).map_or(String::new(), |advice| format!("; {advice}"));
+            writeln!(
+                out,
+                "\ntarget {}: {refusal}{advice}",
+                loaded.port(row.target.port)
+            )?;
         }
     }
-    Ok(())
+    inquiry.in_words(out)
 }
 
 const HEADING: [&str; 6] = [
@@ -36,25 +45,24 @@ const HEADING: [&str; 6] = [
     "own from",
 ];
 
-fn row(row: &Row) -> [String; 6] {
+fn cells(loaded: &Loaded, row: &Row) -> [String; 6] {
     let (verdict, units) = match &row.verdict {
         Ok(Verdict::Isolated { units }) => ("isolated", units.to_string()),
         Ok(Verdict::Reached { units, .. }) => ("reached", units.to_string()),
         Err(_) => ("refused", "-".into()),
     };
+    let ports = |ports: &[u16]| listed(ports.iter().map(|&port| loaded.port(port)));
     let (foreign, own) = match (&row.senders, &row.verdict) {
-        (Ok(senders), _) => (
-            numbers(senders.foreign.iter().copied()),
-            numbers(senders.own.iter().copied()),
-        ),
+        (Ok(senders), _) => (ports(&senders.foreign), ports(&senders.own)),
         // The list was too long, but the verdict has one.
-        (Err(_), Ok(Verdict::Reached { port, .. })) => {
-            (format!("{port}, others unknown"), "unknown".into())
-        }
+        (Err(_), Ok(Verdict::Reached { port, .. })) => (
+            format!("{}, others unknown", loaded.port(*port)),
+            "unknown".into(),
+        ),
         (Err(_), _) => ("unknown".into(), "unknown".into()),
     };
     [
-        row.target.port.to_string(),
+        loaded.port(row.target.port),
         row.target.group.to_string(),
         verdict.into(),
         units,
@@ -63,29 +71,35 @@ fn row(row: &Row) -> [String; 6] {
     ]
 }
 
-pub(super) fn in_json(rows: &[Row]) -> Json {
-    let targets = rows.iter().map(|row| {
-        let mut members = vec![
-            ("target", json::number(row.target.port)),
-            ("group", json::number(row.target.group)),
-        ];
-        match &row.verdict {
-            Ok(Verdict::Isolated { units }) => members.extend([
-                ("verdict", json::text("isolated")),
-                ("units", json::number(*units)),
-            ]),
-            Ok(Verdict::Reached { units, .. }) => members.extend([
-                ("verdict", json::text("reached")),
-                ("units", json::number(*units)),
-            ]),
-            Err(refusal) => members.push(("refusal", json::text(refusal))),
-        }
-        if let Ok(senders) = &row.senders {
-            let ports = |ports: &[u16]| json::list(ports.iter().map(|&port| json::number(port)));
-            members.push(("foreign_from", ports(&senders.foreign)));
-            members.push(("own_from", ports(&senders.own)));
-        }
-        Json::Object(members)
-    });
-    Json::Object(vec![("targets", json::list(targets))])
+pub(super) fn in_json(inquiry: &Inquiry, rows: &[Row], out: Output) -> io::Result<()> {
+    let targets = rows.iter().map(|row| row_in_json(inquiry, row));
+    let mut members = inquiry.in_json();
+    members.push(("targets", json::list(targets)));
+    json::write(out, members)
+}
+
+/// A row's verdict is as that of one target.
+fn row_in_json(inquiry: &Inquiry, row: &Row) -> Json {
+    let mut members = vec![
+        ("target", json::number(row.target.port)),
+        ("group", json::number(row.target.group)),
+    ];
+    match &row.verdict {
+        Ok(verdict) => members.extend(verdict::in_json(inquiry, verdict)),
+        Err(refusal) => members.push(("refused", json::refused(refusal))),
+    }
+    let senders = match &row.senders {
+        Ok(senders) => senders_in_json(senders),
+        Err(refusal) => vec![("refused", json::refused(refusal))],
+    };
+    members.push(("senders", Json::Object(senders)));
+    Json::Object(members)
+}
+
+fn senders_in_json(senders: &Senders) -> json::Members {
+    let ports = |ports: &[u16]| json::list(ports.iter().map(|&port| json::number(port)));
+    vec![
+        ("foreign", ports(&senders.foreign)),
+        ("own", ports(&senders.own)),
+    ]
 }

@@ -1,35 +1,50 @@
-//! Which ports belong together. A fabric file names no switches: the ports that
-//! entries join are taken to be one.
+//! Which ports belong together. A fabric file says nothing of it: where no name
+//! does, the ports that entries join are taken to be one switch.
 
 use std::collections::BTreeMap;
 
 use crate::fabric::Fabric;
+use crate::names::Names;
 
-/// The ports of each switch, rising.
-pub(super) fn switches(fabric: &Fabric) -> Vec<Vec<u16>> {
+/// Ports of one switch, rising; without a name it is guessed.
+pub(super) struct Switch {
+    pub(super) name: Option<String>,
+    pub(super) ports: Vec<u16>,
+}
+
+/// Every port of the fabric is on one of them.
+pub(super) fn switches(fabric: &Fabric, names: &Names) -> Vec<Switch> {
     let mut joined = Joined::default();
-    for edge in &fabric.edges {
-        joined.first_of(edge.port);
+    for port in ports(fabric) {
+        joined.first_of(port);
     }
-    for link in &fabric.links {
-        joined.first_of(link.from);
-        joined.first_of(link.to);
-    }
+    let is_free = |port: u16| names.switch_of(port).is_none();
     for entry in &fabric.entries {
-        match entry.out_port {
-            0 => joined.first_of(entry.in_port),
-            out_port => joined.join(entry.in_port, out_port),
+        if entry.out_port != 0 && is_free(entry.in_port) && is_free(entry.out_port) {
+            joined.join(entry.in_port, entry.out_port);
+        }
+    }
+    let mut switches: BTreeMap<(Option<String>, u16), Vec<u16>> = BTreeMap::new();
+    for port in joined.parent.clone().into_keys() {
+        let switch = match names.switch_of(port) {
+            Some(name) => (Some(name.to_string()), 0),
+            None => (None, joined.first_of(port)),
         };
+        switches.entry(switch).or_default().push(port);
     }
-    let mut switches: BTreeMap<u16, Vec<u16>> = BTreeMap::new();
-    let ports: Vec<u16> = joined.parent.keys().copied().collect();
-    for port in ports {
-        switches
-            .entry(joined.first_of(port))
-            .or_default()
-            .push(port);
-    }
-    switches.into_values().collect()
+    let switches = switches.into_iter();
+    switches
+        .map(|((name, _), ports)| Switch { name, ports })
+        .collect()
+}
+
+/// Every port that a record has, some more than once.
+fn ports(fabric: &Fabric) -> impl Iterator<Item = u16> + '_ {
+    let edges = fabric.edges.iter().map(|edge| edge.port);
+    let links = fabric.links.iter().flat_map(|link| [link.from, link.to]);
+    let entries = fabric.entries.iter();
+    let entries = entries.flat_map(|entry| [entry.in_port, entry.out_port]);
+    edges.chain(links).chain(entries.filter(|&port| port != 0))
 }
 
 /// Ports that are joined lead to the same first port.
@@ -50,10 +65,8 @@ impl Joined {
         }
     }
 
-    fn join(&mut self, one: u16, other: u16) -> u16 {
+    fn join(&mut self, one: u16, other: u16) {
         let (one, other) = (self.first_of(one), self.first_of(other));
-        let (first, second) = (one.min(other), one.max(other));
-        self.parent.insert(second, first);
-        first
+        self.parent.insert(one.max(other), one.min(other));
     }
 }

@@ -1,0 +1,164 @@
+//! What was asked, which every answer says.
+
+use super::files::Loaded;
+use super::json::{self, Json, Members};
+use super::manual::VERSION;
+use super::{describe, Failure, Output};
+use crate::header::{Header, HeaderSet};
+use crate::limits::MOST_HOPS;
+use crate::query::Query;
+use crate::refusal::{Question, Refusal};
+
+/// What 'isolated', or any other answer, is about.
+const COVERED: &str = "IPv4 headers; ARP, IPv6 and other frames are not told apart";
+
+/// What is asked of a fabric.
+pub(super) struct Inquiry<'l> {
+    pub(super) command: &'static str,
+    pub(super) loaded: &'l Loaded,
+    pub(super) asked: Asked,
+}
+
+#[derive(Clone, Copy)]
+pub(super) enum Asked {
+    /// What gets out at the query's port.
+    Target(Query),
+    /// What gets out at each edge port.
+    EveryTarget(Query),
+    /// Where a packet goes.
+    Packet {
+        start: u32,
+        header: Header,
+        hops: u32,
+    },
+}
+
+impl Inquiry<'_> {
+    /// The query of a verdict or a list.
+    fn query(&self) -> Option<&Query> {
+        match &self.asked {
+            Asked::Target(query) | Asked::EveryTarget(query) => Some(query),
+            Asked::Packet { .. } => None,
+        }
+    }
+
+    fn hops(&self) -> u32 {
+        match &self.asked {
+            Asked::Target(query) | Asked::EveryTarget(query) => query.hops,
+            Asked::Packet { hops, .. } => *hops,
+        }
+    }
+
+    /// Whether every header and all hops are asked about.
+    pub(super) fn is_whole(&self) -> bool {
+        self.narrowings().is_empty()
+    }
+
+    /// How an answer to less than the whole question begins to say so.
+    pub(super) fn only(&self) -> String {
+        match self.is_whole() {
+            true => String::new(),
+            false => format!(", but only {}", self.narrowings().join(" and ")),
+        }
+    }
+
+    fn narrowings(&self) -> Vec<String> {
+        let mut narrowings = Vec::new();
+        if let Some(query) = self.query() {
+            if query.asked != HeaderSet::ALL_WILD {
+                narrowings.push(format!("for headers {}", query.asked));
+            }
+            if query.hops != MOST_HOPS {
+                narrowings.push(format!("within {}", describe::hops(query.hops)));
+            }
+        }
+        narrowings
+    }
+
+    /// Line by line.
+    pub(super) fn lines(&self) -> Vec<String> {
+        let (file, digest) = (&self.loaded.name, self.loaded.digest);
+        let mut lines = vec![("fabric", format!("{file}, sha256 {digest}"))];
+        lines.extend(match &self.asked {
+            Asked::Target(query) => vec![
+                ("target", format!("port {}", self.loaded.port(query.port))),
+                ("headers", query.asked.to_string()),
+            ],
+            Asked::EveryTarget(query) => vec![
+                ("targets", "every edge port".into()),
+                ("headers", query.asked.to_string()),
+            ],
+            Asked::Packet { start, header, .. } => vec![
+                ("start", format!("port {}", self.loaded.port(*start))),
+                ("header", header.to_string()),
+            ],
+        });
+        lines.push(("hops", format!("at most {}", self.hops())));
+        if let Some(query) = self.query() {
+            lines.push(("budget", format!("{} units", query.budget)));
+        }
+        lines.push(("covers", COVERED.into()));
+        lines.push(("version", format!("mwishovala {VERSION}")));
+        let lines = lines.into_iter();
+        lines
+            .map(|(name, value)| format!("{name:<8} {value}"))
+            .collect()
+    }
+
+    /// What follows the answer in words.
+    pub(super) fn in_words(&self, out: Output) -> std::io::Result<()> {
+        writeln!(out, "\nasked")?;
+        self.lines()
+            .iter()
+            .try_for_each(|line| writeln!(out, "  {line}"))
+    }
+
+    /// What comes before the answer in JSON.
+    pub(super) fn in_json(&self) -> Members {
+        let mut members = json::head(Some(self.command));
+        members.extend(self.about());
+        members
+    }
+
+    fn about(&self) -> Members {
+        let mut asked = match &self.asked {
+            Asked::Target(query) => vec![("target", json::number(query.port))],
+            Asked::EveryTarget(_) => vec![("target", Json::Null)],
+            Asked::Packet { start, header, .. } => vec![
+                ("start", json::number(*start)),
+                ("header", json::header(header)),
+            ],
+        };
+        asked.push(("hops", json::number(self.hops())));
+        if let Some(query) = self.query() {
+            asked.extend([
+                ("headers", json::set(&query.asked)),
+                ("budget", json::number(query.budget)),
+                ("whole", Json::Truth(self.is_whole())),
+            ]);
+        }
+        let mut members = self.loaded.in_json();
+        members.push(("asked", Json::Object(asked)));
+        members.push(("covers", json::text(COVERED)));
+        members
+    }
+
+    /// A no to this.
+    pub(super) fn refused(&self, refusal: Refusal) -> Failure {
+        Failure::Refused {
+            file: self.loaded.name.clone(),
+            refusal,
+            about: self.about(),
+        }
+    }
+}
+
+/// What to try after a no, if something may help.
+pub(super) fn advice(refusal: &Refusal) -> Option<&'static str> {
+    match refusal.question {
+        Question::Budget => Some(
+            "try a larger --budget, or a narrower set, which verdict, list and audit take as --asked",
+        ),
+        _ => None,
+    }
+}
