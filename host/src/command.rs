@@ -9,6 +9,7 @@ mod foreign;
 mod gate;
 mod inquiry;
 mod json;
+mod judged;
 mod list;
 mod manual;
 mod replace;

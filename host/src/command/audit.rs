@@ -3,16 +3,17 @@
 mod report;
 
 use super::arguments::Audit;
+use super::files::Loaded;
 use super::foreign::Share;
 use super::inquiry::{Asked, Inquiry};
+use super::judged::Judged;
 use super::{threads, Failure, Output, ISOLATED, NO_ANSWER, REACHED};
-use crate::calls::{list_growing, verdict};
+use crate::calls::list_growing;
 use crate::fabric::Fabric;
 use crate::finds::Finds;
 use crate::query::Query;
 use crate::record::Edge;
 use crate::refusal::{Question, Refusal};
-use crate::verdict::Verdict;
 
 /// The most bytes that one target's list may take.
 const MOST_AREA: usize = 64 << 20;
@@ -23,7 +24,7 @@ const NOTHING_TO_ISOLATE: &str = "it has no edge ports, so there is nothing to a
 /// What is known of one target.
 struct Row {
     target: Edge,
-    verdict: Result<Verdict, Refusal>,
+    judged: Result<Judged, Refusal>,
     senders: Result<Senders, Refusal>,
 }
 
@@ -36,8 +37,8 @@ struct Senders {
 
 pub(super) fn audit(audit: &Audit, out: Output) -> Result<u8, Failure> {
     let loaded = audit.file.load()?;
-    let (file, fabric) = (&loaded.bytes, &loaded.fabric);
-    if fabric.edges.is_empty() {
+    let edges = &loaded.fabric.edges;
+    if edges.is_empty() {
         return Err(audit.file.failed(NOTHING_TO_ISOLATE));
     }
     let inquiry = Inquiry {
@@ -45,8 +46,8 @@ pub(super) fn audit(audit: &Audit, out: Output) -> Result<u8, Failure> {
         loaded: &loaded,
         asked: Asked::EveryTarget(audit.query),
     };
-    let rows = threads::each(&fabric.edges, audit.jobs, "edge ports", |target| {
-        Row::examine(file, fabric, target, &audit.query)
+    let rows = threads::each(edges, audit.jobs, "edge ports", |target| {
+        Row::examine(&loaded, target, &audit.query)
     })?;
     if let Some(refusal) = refused_for_all(&rows) {
         return Err(inquiry.refused(refusal.clone()));
@@ -55,7 +56,7 @@ pub(super) fn audit(audit: &Audit, out: Output) -> Result<u8, Failure> {
         true => report::in_json(&inquiry, &rows, out)?,
         false => report::in_words(&inquiry, &rows, out)?,
     }
-    Ok(if rows.iter().any(|row| row.verdict.is_err()) {
+    Ok(if rows.iter().any(|row| row.judged.is_err()) {
         NO_ANSWER
     } else if rows.iter().any(Row::is_reached) {
         REACHED
@@ -66,27 +67,27 @@ pub(super) fn audit(audit: &Audit, out: Output) -> Result<u8, Failure> {
 
 /// A refusal that has nothing to do with the target.
 fn refused_for_all(rows: &[Row]) -> Option<&Refusal> {
-    let refusal = rows.first()?.verdict.as_ref().err()?;
+    let refusal = rows.first()?.judged.as_ref().err()?;
     matches!(refusal.question, Question::Hops | Question::Asked).then_some(refusal)
 }
 
 impl Row {
-    fn examine(file: &[u8], fabric: &Fabric, target: &Edge, query: &Query) -> Row {
+    fn examine(loaded: &Loaded, target: &Edge, query: &Query) -> Row {
         let query = Query {
             port: u32::from(target.port),
             ..*query
         };
         let mut area = Vec::new();
-        let finds = list_growing(file, &mut area, MOST_AREA, &query);
+        let finds = list_growing(&loaded.bytes, &mut area, MOST_AREA, &query);
         Row {
             target: *target,
-            verdict: verdict(file, &query),
-            senders: finds.map(|finds| Senders::of(finds, fabric, target)),
+            judged: Judged::of(loaded, &query),
+            senders: finds.map(|finds| Senders::of(finds, &loaded.fabric, target)),
         }
     }
 
     fn is_reached(&self) -> bool {
-        matches!(self.verdict, Ok(Verdict::Reached { .. }))
+        self.judged.as_ref().is_ok_and(Judged::is_reached)
     }
 }
 

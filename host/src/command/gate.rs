@@ -1,7 +1,10 @@
 //! `mwishovala gate`: what a mount hangs on.
 
+use std::io::{self, Write};
+
 use super::arguments::Gate;
 use super::inquiry::{Asked, Inquiry};
+use super::judged::leads_further;
 use super::{threads, Failure, Output, ISOLATED, REACHED};
 use crate::calls::verdict;
 use crate::query::Query;
@@ -24,6 +27,11 @@ pub(super) fn gate(gate: &Gate, out: Output) -> Result<u8, Failure> {
     let (target, hops, digest) = (query.port, query.hops, loaded.digest);
     match verdict {
         Verdict::Isolated { .. } => {
+            if leads_further(&loaded.fabric, &query) {
+                // The line is fixed, and the status is for it; this is for a log.
+                let note = format!("links could lead further than {hops} hops to port {target}");
+                let _ = writeln!(io::stderr(), "mwishovala: {note}");
+            }
             writeln!(
                 out,
                 "isolated: port {target}, every IPv4 header, {hops} hops, sha256 {digest}"

@@ -2,6 +2,7 @@
 
 use super::files::Loaded;
 use super::json::{self, Json, Members};
+use super::judged::leads_further;
 use super::manual::VERSION;
 use super::{describe, Failure, Output};
 use crate::header::{Header, HeaderSet};
@@ -49,6 +50,27 @@ impl Inquiry<'_> {
         }
     }
 
+    /// Where links could lead further than the hops asked about.
+    fn further(&self) -> String {
+        let fabric = &self.loaded.fabric;
+        match &self.asked {
+            Asked::Target(query) if leads_further(fabric, query) => {
+                "; links could lead further".into()
+            }
+            Asked::EveryTarget(query) => {
+                let edges = fabric.edges.iter().map(|edge| edge.port);
+                let ports: Vec<u16> = edges
+                    .filter(|&port| fabric.leads_further(port, query.hops))
+                    .collect();
+                match ports.is_empty() {
+                    true => String::new(),
+                    false => format!("; links could lead further to {}", describe::listed(ports)),
+                }
+            }
+            _ => String::new(),
+        }
+    }
+
     /// Whether every header and all hops are asked about.
     pub(super) fn is_whole(&self) -> bool {
         self.narrowings().is_empty()
@@ -93,7 +115,8 @@ impl Inquiry<'_> {
                 ("header", header.to_string()),
             ],
         });
-        lines.push(("hops", format!("at most {}", self.hops())));
+        let further = self.further();
+        lines.push(("hops", format!("at most {}{further}", self.hops())));
         if let Some(query) = self.query() {
             lines.push(("budget", format!("{} units", query.budget)));
         }

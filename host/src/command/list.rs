@@ -8,10 +8,12 @@ use super::files::Loaded;
 use super::foreign::Share;
 use super::inquiry::{self, Inquiry};
 use super::json::{self, Json};
+use super::judged::leads_further;
 use super::table::table;
 use super::{describe, threads, Failure, Output, DONE};
 use crate::calls::list_growing;
 use crate::finds::{Find, Finds};
+use crate::query::Query;
 
 /// The most bytes that a list may take.
 const MOST_AREA: usize = 256 << 20;
@@ -28,7 +30,7 @@ pub(super) fn list(asked: &Asked, out: Output) -> Result<u8, Failure> {
         .map_err(|refusal| inquiry.refused(refusal))?;
     let target = asked.query.port;
     match asked.json {
-        true => in_json(out, &inquiry, target, finds)?,
+        true => in_json(out, &inquiry, &asked.query, finds)?,
         false => in_words(out, &inquiry, target, finds)?,
     }
     Ok(DONE)
@@ -72,14 +74,17 @@ fn row(loaded: &Loaded, target: u32, find: &Find) -> [String; 6] {
     ]
 }
 
-fn in_json(out: Output, inquiry: &Inquiry, target: u32, finds: Finds) -> io::Result<()> {
+fn in_json(out: Output, inquiry: &Inquiry, query: &Query, finds: Finds) -> io::Result<()> {
+    let further = leads_further(&inquiry.loaded.fabric, query);
+    let mut members = inquiry.in_json();
+    members.push(("further", Json::Truth(further)));
     out.write_all(b"{")?;
-    for (name, value) in inquiry.in_json() {
+    for (name, value) in members {
         write!(out, "{}:{value},", json::text(name))?;
     }
     out.write_all(b"\"finds\":[")?;
     for (place, find) in finds.enumerate() {
-        let find = find_in_json(inquiry.loaded, target, &find);
+        let find = find_in_json(inquiry.loaded, query.port, &find);
         write!(out, "{}{find}", json::comma(place))?;
     }
     out.write_all(b"]}\n")

@@ -2,9 +2,8 @@
 
 use super::arguments::Asked;
 use super::inquiry::{self, Inquiry};
-use super::json::{self, Members};
-use super::{describe, threads, Failure, Output, ISOLATED, REACHED};
-use crate::calls;
+use super::judged::Judged;
+use super::{describe, json, threads, Failure, Output, ISOLATED, REACHED};
 use crate::query::Query;
 use crate::verdict::Verdict;
 
@@ -15,33 +14,37 @@ pub(super) fn verdict(asked: &Asked, out: Output) -> Result<u8, Failure> {
         loaded: &loaded,
         asked: inquiry::Asked::Target(asked.query),
     };
-    let verdict = threads::call(|| calls::verdict(&loaded.bytes, &asked.query))?
+    let judged = threads::call(|| Judged::of(&loaded, &asked.query))?
         .map_err(|refusal| inquiry.refused(refusal))?;
     if asked.json {
         let mut members = inquiry.in_json();
-        members.extend(in_json(&inquiry, &verdict));
+        members.extend(judged.in_json(&loaded.fabric));
         json::write(out, members)?;
     } else {
-        out.write_all(in_words(&inquiry, &asked.query, &verdict).as_bytes())?;
+        out.write_all(in_words(&inquiry, &asked.query, &judged).as_bytes())?;
         inquiry.in_words(out)?;
     }
-    Ok(match verdict {
-        Verdict::Isolated { .. } => ISOLATED,
-        Verdict::Reached { .. } => REACHED,
+    Ok(match judged.is_reached() {
+        true => REACHED,
+        false => ISOLATED,
     })
 }
 
-fn in_words(inquiry: &Inquiry, query: &Query, verdict: &Verdict) -> String {
+fn in_words(inquiry: &Inquiry, query: &Query, judged: &Judged) -> String {
     let loaded = inquiry.loaded;
     let target = loaded.port(query.port);
-    match verdict {
+    match &judged.verdict {
         Verdict::Isolated { units } => {
             let units = describe::counted(*units, "unit", "units");
             let hops = describe::hops(query.hops);
             let only = inquiry.only();
+            let further = match judged.further {
+                true => format!("links could lead further: of more than {hops} it says nothing\n"),
+                false => String::new(),
+            };
             format!(
                 "isolated{only}: no foreign IPv4 packet gets out at port {target} \
-                 within {hops} ({units})\n"
+                 within {hops} ({units})\n{further}"
             )
         }
         Verdict::Reached {
@@ -55,14 +58,35 @@ fn in_words(inquiry: &Inquiry, query: &Query, verdict: &Verdict) -> String {
             let hops = describe::hops(*hops);
             format!(
                 "reached: a foreign packet gets out at port {target} after {hops} ({units})\n\n\
-                 it starts at port {}{}\n{}\nand takes this way\n{}",
+                 it starts at port {}{}\n{}\nand takes this way\n{}{}",
                 loaded.port(*port),
                 why_foreign(inquiry, *port, query.port),
                 describe::packet(header),
                 describe::path(loaded, entries),
+                to_send(judged),
             )
         }
     }
+}
+
+/// What to send to see it, where the packet itself can't be sent.
+fn to_send(judged: &Judged) -> String {
+    if judged.misfits.is_empty() {
+        return String::new();
+    }
+    let why: String = judged
+        .misfits
+        .iter()
+        .map(|why| format!("  {why}\n"))
+        .collect();
+    let instead = match &judged.sendable {
+        Some(header) => format!(
+            "one that can, by the same way\n{}",
+            describe::packet(header)
+        ),
+        None => "none can that takes the same way\n".into(),
+    };
+    format!("\nno host sends this packet as it is\n{why}{instead}")
 }
 
 fn why_foreign(inquiry: &Inquiry, port: u16, target: u32) -> String {
@@ -82,29 +106,5 @@ fn why_foreign(inquiry: &Inquiry, port: u16, target: u32) -> String {
             format!(", in the target's group {group} but outside what is admitted, {admitted}")
         }
         _ => String::new(),
-    }
-}
-
-/// A verdict's part of an answer, of one target or of a row.
-pub(super) fn in_json(inquiry: &Inquiry, verdict: &Verdict) -> Members {
-    match verdict {
-        Verdict::Isolated { units } => vec![
-            ("verdict", json::text("isolated")),
-            ("units", json::number(*units)),
-        ],
-        Verdict::Reached {
-            units,
-            port,
-            hops,
-            header,
-            entries,
-        } => vec![
-            ("verdict", json::text("reached")),
-            ("units", json::number(*units)),
-            ("port", json::number(*port)),
-            ("hops", json::number(*hops)),
-            ("header", json::header(header)),
-            ("path", json::path(&inquiry.loaded.fabric, entries)),
-        ],
     }
 }

@@ -7,13 +7,13 @@ use super::super::files::Loaded;
 use super::super::inquiry::{advice, Inquiry};
 use super::super::json::{self, Json};
 use super::super::table::table;
-use super::super::{verdict, Output};
+use super::super::Output;
 use super::{Row, Senders};
 use crate::verdict::Verdict;
 
 pub(super) fn in_words(inquiry: &Inquiry, rows: &[Row], out: Output) -> io::Result<()> {
     let reached = rows.iter().filter(|row| row.is_reached()).count();
-    let refused = rows.iter().filter(|row| row.verdict.is_err()).count();
+    let refused = rows.iter().filter(|row| row.judged.is_err()).count();
     let isolated = rows.len() - reached - refused;
     let ports = counted(rows.len() as u32, "edge port", "edge ports");
     let only = inquiry.only();
@@ -24,7 +24,7 @@ pub(super) fn in_words(inquiry: &Inquiry, rows: &[Row], out: Output) -> io::Resu
     let loaded = inquiry.loaded;
     table(out, HEADING, rows.iter().map(|row| cells(loaded, row)))?;
     for row in rows {
-        if let Err(refusal) = &row.verdict {
+        if let Err(refusal) = &row.judged {
             let advice = advice(refusal).map_or(String::new(), |advice| format!("; {advice}"));
             writeln!(
                 out,
@@ -46,13 +46,14 @@ const HEADING: [&str; 6] = [
 ];
 
 fn cells(loaded: &Loaded, row: &Row) -> [String; 6] {
-    let (verdict, units) = match &row.verdict {
+    let verdict = row.judged.as_ref().map(|judged| &judged.verdict);
+    let (name, units) = match verdict {
         Ok(Verdict::Isolated { units }) => ("isolated", units.to_string()),
         Ok(Verdict::Reached { units, .. }) => ("reached", units.to_string()),
         Err(_) => ("refused", "-".into()),
     };
     let ports = |ports: &[u16]| listed(ports.iter().map(|&port| loaded.port(port)));
-    let (foreign, own) = match (&row.senders, &row.verdict) {
+    let (foreign, own) = match (&row.senders, verdict) {
         (Ok(senders), _) => (ports(&senders.foreign), ports(&senders.own)),
         // The list was too long, but the verdict has one.
         (Err(_), Ok(Verdict::Reached { port, .. })) => (
@@ -64,7 +65,7 @@ fn cells(loaded: &Loaded, row: &Row) -> [String; 6] {
     [
         loaded.port(row.target.port),
         row.target.group.to_string(),
-        verdict.into(),
+        name.into(),
         units,
         foreign,
         own,
@@ -84,8 +85,8 @@ fn row_in_json(inquiry: &Inquiry, row: &Row) -> Json {
         ("target", json::number(row.target.port)),
         ("group", json::number(row.target.group)),
     ];
-    match &row.verdict {
-        Ok(verdict) => members.extend(verdict::in_json(inquiry, verdict)),
+    match &row.judged {
+        Ok(judged) => members.extend(judged.in_json(&inquiry.loaded.fabric)),
         Err(refusal) => members.push(("refused", json::refused(refusal))),
     }
     let senders = match &row.senders {

@@ -1,0 +1,173 @@
+//! Beside a packet that no host sends stands one that can be sent, and beside a
+//! hop limit whether links could lead further.
+
+#[path = "common/command.rs"]
+mod command;
+#[path = "common/json.rs"]
+mod json;
+
+use std::cell::Cell;
+use std::fs;
+use std::path::Path;
+
+use command::{folder, ran};
+use json::{parse, Value};
+use reference::file::write;
+use reference::random::{any, cases};
+
+/// A folder with this text as `fabric`.
+fn with(name: &str, text: &str) -> std::path::PathBuf {
+    let folder = folder(name);
+    fs::write(folder.join("text"), text).unwrap();
+    assert_eq!(ran(&folder, "pack text fabric").status, 0);
+    folder
+}
+
+fn answered(folder: &Path, line: &str) -> Value {
+    parse(ran(folder, line).text()).unwrap()
+}
+
+/// A header as the command line takes it.
+fn in_words(header: &Value) -> String {
+    let Value::Object(fields) = header else {
+        panic!("{header:?} is no header");
+    };
+    let fields = fields.iter().map(|(name, value)| match value {
+        Value::Text(text) => format!("{name}={text}"),
+        other => format!("{name}={}", other.number().unwrap()),
+    });
+    fields.collect::<Vec<_>>().join(",")
+}
+
+const EDGES: &str = "edge 1 group 7 admits any\nedge 2 group 9 admits any\n";
+
+#[test]
+fn what_cannot_be_sent_is_said() {
+    let folder = with(
+        "instead",
+        &format!("{EDGES}entry 1 -> 2 priority 1 match nw_dst=10.0.0.2,tp_dst=80\n"),
+    );
+    let text = ran(&folder, "verdict fabric 2");
+    assert!(text.text().contains(
+        "\nno host sends this packet as it is\n  \
+         nw_proto 0: only a frame made by hand has it\n  \
+         tp_dst 80: only tcp, udp and icmp have it\n\
+         one that can, by the same way\n  \
+         nw_src    0.0.0.0\n  nw_dst    10.0.0.2\n  tp_src    0\n  tp_dst    80\n  \
+         dl_vlan   65535\n  nw_tos    0\n  nw_proto  6\n"
+    ));
+    for line in ["verdict fabric 2 --json", "audit fabric --json"] {
+        let answer = answered(&folder, line);
+        let rows = answer.get("targets").and_then(Value::list);
+        let judged = rows.map_or(&answer, |rows| &rows[1]);
+        assert_eq!(judged.at(&["header", "nw_proto"]), Some(&Value::Number(0)));
+        assert_eq!(
+            judged.at(&["sendable", "nw_proto"]),
+            Some(&Value::Number(6))
+        );
+        assert_eq!(
+            judged.get("misfits").and_then(Value::list).unwrap().len(),
+            2
+        );
+    }
+}
+
+#[test]
+fn where_none_can_be_sent() {
+    let folder = with(
+        "none-instead",
+        &format!("{EDGES}entry 1 -> 2 priority 1 match dl_vlan=5000\n"),
+    );
+    let text = ran(&folder, "verdict fabric 2");
+    assert_eq!(text.status, 1);
+    assert!(text.text().contains(
+        "  dl_vlan 5000: a tag has 0 to 4095, and 65535 is no tag\n  \
+         nw_proto 0: only a frame made by hand has it\nnone can that takes the same way\n"
+    ));
+    let answer = answered(&folder, "verdict fabric 2 --json");
+    assert_eq!(answer.get("sendable"), Some(&Value::Null));
+}
+
+#[test]
+fn a_packet_that_can_be_sent_stands_alone() {
+    let folder = with(
+        "as-it-is",
+        &format!("{EDGES}entry 1 -> 2 priority 1 match dl_vlan=5,nw_proto=udp\n"),
+    );
+    assert!(!ran(&folder, "verdict fabric 2")
+        .text()
+        .contains("no host sends"));
+    let answer = answered(&folder, "verdict fabric 2 --json");
+    assert_eq!(answer.get("sendable"), answer.get("header"));
+    assert_eq!(answer.get("misfits"), Some(&Value::List(vec![])));
+}
+
+/// Whatever the fabric, the packet that can be sent gets out at the target.
+#[test]
+fn what_can_be_sent_arrives() {
+    let folder = folder("sent");
+    let sent = Cell::new(0);
+    cases(9_400_000, 150, |rng| {
+        let fabric = any(rng);
+        fs::write(folder.join("fabric"), write(&fabric)).unwrap();
+        let port = rng.pick(&fabric.edges).map_or(1, |edge| edge.port);
+        let answer = answered(
+            &folder,
+            &format!("verdict fabric {port} --budget 5000 --json"),
+        );
+        let sendable = answer
+            .get("sendable")
+            .filter(|header| **header != Value::Null);
+        if let Some(header) = sendable {
+            let start = answer.get("port").and_then(Value::number).unwrap();
+            let line = format!("run fabric {start} {} --json", in_words(header));
+            let run = answered(&folder, &line);
+            assert_eq!(run.get("fate").and_then(Value::text), Some("left"));
+            assert_eq!(run.get("port"), Some(&Value::Number(port.into())));
+            sent.set(sent.get() + 1);
+        }
+    });
+    // A replayed case is one alone.
+    assert!(
+        std::env::var_os("SEED").is_some() || sent.get() > 20,
+        "{sent:?}"
+    );
+}
+
+/// 17 switches in a row: one hop more than the largest limit.
+#[test]
+fn links_that_lead_further_are_said() {
+    let links = (0..16).map(|at| format!("link {} -> {}\n", 200 + at, 101 + at));
+    let links: String = links.collect();
+    let entries =
+        (1..16).map(|at| format!("entry {} -> {} priority 1 match any\n", 100 + at, 200 + at));
+    let entries: String = entries.collect();
+    let row = format!(
+        "{EDGES}{links}entry 1 -> 200 priority 1 match any\n{entries}\
+         entry 116 -> 2 priority 1 match any\n"
+    );
+    let folder = with("row", &row);
+    for (target, further) in [(2, true), (1, false)] {
+        let text = ran(&folder, &format!("verdict fabric {target}"));
+        assert_eq!(text.status, 0);
+        let second = "\nlinks could lead further: of more than 16 hops it says nothing\n";
+        assert_eq!(text.text().contains(second), further);
+        for command in ["verdict", "list"] {
+            let json = answered(&folder, &format!("{command} fabric {target} --json"));
+            assert_eq!(json.get("further"), Some(&Value::Truth(further)));
+            let text = ran(&folder, &format!("{command} fabric {target}"));
+            let hops = "\n  hops     at most 16; links could lead further\n";
+            assert_eq!(text.text().contains(hops), further);
+        }
+        let gate = ran(&folder, &format!("gate fabric {target}"));
+        assert_eq!((gate.status, !gate.err.is_empty()), (0, further));
+    }
+    let audit = ran(&folder, "audit fabric");
+    assert!(audit
+        .text()
+        .contains("\n  hops     at most 16; links could lead further to 2\n"));
+    let audit = answered(&folder, "audit fabric --json");
+    let rows = audit.get("targets").and_then(Value::list).unwrap();
+    let further: Vec<_> = rows.iter().filter_map(|row| row.get("further")).collect();
+    assert_eq!(further, [&Value::Truth(false), &Value::Truth(true)]);
+}
