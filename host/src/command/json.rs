@@ -2,6 +2,7 @@
 
 use std::fmt;
 
+use super::describe::rewrite;
 use super::inquiry::advice;
 use super::manual::VERSION;
 use super::Output;
@@ -122,9 +123,13 @@ fn of_field(field: Field, header: &Header) -> Json {
 
 /// In words, field by field where it cares, and as document 01's care and value.
 pub(super) fn set(set: &HeaderSet) -> Json {
+    in_words(set, &set.to_string())
+}
+
+fn in_words(set: &HeaderSet, said: &str) -> Json {
     let words = |words: &[u32; 4]| list(words.iter().map(|word| text(format!("{word:08x}"))));
     Json::Object(vec![
-        ("text", text(set)),
+        ("text", text(said)),
         ("fields", fields(set)),
         ("care", words(&set.care)),
         ("value", words(&set.value)),
@@ -154,7 +159,7 @@ pub(super) fn path(fabric: &Fabric, entries: &[u16]) -> Json {
                 ("out_port", number(entry.out_port)),
                 ("priority", number(entry.priority)),
                 ("match", set(&entry.matching)),
-                ("rewrite", set(&entry.rewrite)),
+                ("rewrite", in_words(&entry.rewrite, &rewrite(entry))),
             ]);
         }
         Json::Object(members)
