@@ -18,8 +18,8 @@ fn help_and_version_stand_alone() {
         assert_eq!(ran(&folder, line), overview, "{line}");
     }
     let version = ran(&folder, "--version");
-    let expected = format!("mwishovala {}\n", env!("CARGO_PKG_VERSION"));
-    assert_eq!((version.text(), version.status), (&expected[..], 0));
+    let expected = format!("mwishovala {}\nlibrary: ", env!("CARGO_PKG_VERSION"));
+    assert!(version.text().starts_with(&expected) && version.status == 0);
     for command in COMMANDS {
         let help = ran(&folder, &format!("help {command}"));
         assert_eq!(help.status, 0);

@@ -86,7 +86,7 @@ pub(super) fn parse(words: Vec<OsString>) -> Result<Order, Failure> {
     match texts[..] {
         [] => return Err(wrong("a command is missing")),
         [Some("--help" | "-h")] => return Ok(print(manual::overview())),
-        [Some("--version")] => return Ok(print(format!("mwishovala {}\n", manual::VERSION))),
+        [Some("--version")] => return Ok(print(manual::version())),
         [Some(name), Some("--help" | "-h")] => {
             return command_named(name).map(help_after);
         }

@@ -11,8 +11,15 @@ pub(super) use completions::{completions, Shell};
 pub(super) use help::{help, overview};
 pub(super) use page::page;
 
+use crate::raw;
+
 /// The program's version.
 pub(super) const VERSION: &str = env!("CARGO_PKG_VERSION");
+
+/// What `--version` prints: the program's, and which library is linked.
+pub(super) fn version() -> String {
+    format!("mwishovala {VERSION}\nlibrary: {}\n", raw::library())
+}
 
 /// The program in a sentence.
 const PROGRAM: &str = "can a foreign packet get out at a port of a switch fabric?";

@@ -30,7 +30,7 @@ the hop limit's hops, and of the fabric that the file says.
 pub(super) const SETS: Topic = Topic {
     title: "Header sets",
     text: "\
-SET is 'any', or fields with commas between them, as nw_dst=10.0.0.2,tp_dst=80.
+SET is 'any', or fields with commas between them: nw_dst=10.0.0.2,nw_proto=tcp.
 The fields are nw_src, nw_dst, tp_src, tp_dst, dl_vlan, nw_tos, nw_proto.
   addresses  10.0.0.2  10.0.0.0/24  10.0.0.0/255.0.0.255  0x0a000000/0xff000000
   numbers    80   0x50   0x50/0xfff0 (value/mask)   nw_proto also tcp, udp, icmp
@@ -44,11 +44,15 @@ pub(super) const TEXTS: Topic = Topic {
 A text has a line for each edge, link and entry, and # before a remark:
   edge 1 group 7 admits nw_src=10.0.0.0/24
   link 10 -> 11
-  entry 1 -> 10 priority 20 match nw_dst=10.0.0.2,tp_dst=80 set dl_vlan=5
-  entry 11 -> drop priority 1 match any
-Of the entries at an in-port that match, the highest priority takes the packet;
-of equals the first. Ports are 1 to 4095. At most 64 edges, 256 links, 512
-entries, 64 of them at one in-port.
+  entry 1 -> 10 priority 20 match nw_dst=10.0.0.2,nw_proto=tcp,tp_dst=80
+  entry 11 -> 12 priority 1 match any set dl_vlan=5
+  name 12 storage-a
+  switch leaf-1 1 10 12
+A switch reads tp_src and tp_dst only beside nw_proto. Of the entries at an in-
+port that match, the highest priority takes the packet; of equals the first.
+Ports are 1 to 4095. At most 64 edges, 256 links, 512 entries, 64 of them at one
+in-port. Names are said in answers; pack keeps them beside the file, in
+FABRIC.names.
 ",
 };
 
