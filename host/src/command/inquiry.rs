@@ -180,7 +180,8 @@ impl Inquiry<'_> {
 pub(super) fn advice(refusal: &Refusal) -> Option<&'static str> {
     match refusal.question {
         Question::Budget => Some(
-            "try a larger --budget, or a narrower set, which verdict, list and audit take as --asked",
+            "try a larger --budget, or a narrower set, \
+             which verdict, list and audit take as --asked",
         ),
         _ => None,
     }

@@ -62,13 +62,16 @@ pub(super) const ALL: &[Command] = &[
         settings: &[ASKED, HOPS, BUDGET, JSON],
         summary: "is TARGET isolated? if not, a packet that gets there and its way",
         about: &[
-            "Says 'isolated', or 'reached' with a foreign packet that gets out at TARGET and its way \
-             hop by hop. 'isolated:' begins the answer only if every IPv4 header and 16 hops were asked \
-             about; else it begins 'isolated, but only'.",
+            "Says 'isolated', or 'reached' with a foreign packet that gets out at TARGET and \
+             its way hop by hop. 'isolated:' begins the answer only if every IPv4 header and \
+             16 hops were asked about; else it begins 'isolated, but only'.",
             "For a mount use gate, which can't be asked less.",
         ],
         statuses: &[
-            (0, "isolated, for the headers and the hops that were asked about"),
+            (
+                0,
+                "isolated, for the headers and the hops that were asked about",
+            ),
             (1, "reached: a foreign packet gets out at TARGET"),
         ],
     },
@@ -78,9 +81,10 @@ pub(super) const ALL: &[Command] = &[
         settings: &[BUDGET],
         summary: "for a mount: status 0 only if TARGET is isolated, for all headers",
         about: &[
-            "Asks for the verdict on TARGET, for every header and 16 hops, and takes no option that \
-             would ask for less. If TARGET is isolated it prints one line, 'isolated: port TARGET, \
-             every IPv4 header, 16 hops, sha256 DIGEST', with the digest of the file that it read.",
+            "Asks for the verdict on TARGET, for every header and 16 hops, and takes no \
+             option that would ask for less. If TARGET is isolated it prints one line, \
+             'isolated: port TARGET, every IPv4 header, 16 hops, sha256 DIGEST', with the \
+             digest of the file that it read.",
             "Status 0 is for that line alone: 'mwishovala gate --help' prints this with status 2.",
         ],
         statuses: &[
@@ -94,8 +98,9 @@ pub(super) const ALL: &[Command] = &[
         settings: &[ASKED, HOPS, BUDGET, JSON],
         summary: "every header that gets to TARGET, as sets",
         about: &[
-            "Each line is a find: the edge port where its packets start, whose packets they are, \
-             the entries that take them to TARGET in travelling order, and their headers at the start.",
+            "Each line is a find: the edge port where its packets start, whose packets they \
+             are, the entries that take them to TARGET in travelling order, and their headers \
+             at the start.",
         ],
         statuses: &[(0, "the list is whole; it says nothing of isolation")],
     },
@@ -126,9 +131,14 @@ pub(super) const ALL: &[Command] = &[
         operands: &[FABRIC],
         settings: &[ASKED, HOPS, BUDGET, JOBS, JSON],
         summary: "the verdict on every edge port, and who reaches whom",
-        about: &["Asks for the verdict on each edge port as the target, and lists who sends there."],
+        about: &[
+            "Asks for the verdict on each edge port as the target, and lists who sends there.",
+        ],
         statuses: &[
-            (0, "all edge ports, one or more, are isolated for what was asked about"),
+            (
+                0,
+                "all edge ports, one or more, are isolated for what was asked about",
+            ),
             (1, "a foreign packet gets out at one of them"),
         ],
     },
@@ -156,9 +166,7 @@ pub(super) const ALL: &[Command] = &[
         ],
         settings: &[],
         summary: "text to a fabric file",
-        about: &[
-            "FABRIC is written whole or not at all; - is standard output.",
-        ],
+        about: &["FABRIC is written whole or not at all; - is standard output."],
         statuses: &[(0, "the whole file is written")],
     },
     Command {
@@ -173,8 +181,9 @@ pub(super) const ALL: &[Command] = &[
         settings: &[ASKED, HOPS, BUDGET],
         summary: "the fabric as a Graphviz picture, with a verdict on TARGET",
         about: &[
-            "With TARGET, a foreign packet's way is marked in red, or TARGET in green if it is isolated. \
-             A fabric file names no switches: the boxes are guessed from the ports that entries join.",
+            "With TARGET, a foreign packet's way is marked in red, or TARGET in green if it \
+             is isolated. A fabric file names no switches: the boxes are guessed from the \
+             ports that entries join.",
         ],
         statuses: &[(0, "drawn, whatever the verdict")],
     },
