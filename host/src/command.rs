@@ -87,9 +87,9 @@ fn perform(order: Order, out: Output) -> Result<u8, Failure> {
             out.write_all(text.as_bytes())?;
             Ok(status)
         }
-        Order::Verdict(asked) => verdict::verdict(&asked, out),
+        Order::Verdict(trace) => verdict::verdict(&trace, out),
         Order::Gate(gate) => gate::gate(&gate, out),
-        Order::List(asked) => list::list(&asked, out),
+        Order::List(trace) => list::list(&trace, out),
         Order::Run(packet) => run::run(&packet, out),
         Order::Audit(audit) => audit::audit(&audit, out),
         Order::Show(file) => files::show(&file, out),

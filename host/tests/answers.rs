@@ -211,11 +211,12 @@ fn ports_have_names() {
         let ran = ran(&folder, line);
         assert!(ran.text().contains(said), "{line}: {}", ran.text());
     }
-    // The gate's line is the same with and without names.
+    // The gate's line is the same with, without and with damaged names.
     let gate = ran(&folder, "gate f.fabric 1").out;
     fs::remove_file(folder.join("f.fabric.names")).unwrap();
     assert_eq!(ran(&folder, "gate f.fabric 1").out, gate);
     fs::write(folder.join("f.fabric.names"), "name 2 1x\n").unwrap();
+    assert_eq!(ran(&folder, "gate f.fabric 1").out, gate);
     let damaged = ran(&folder, "verdict f.fabric 1");
     assert_eq!((damaged.status, damaged.out.len()), (2, 0));
     assert!(

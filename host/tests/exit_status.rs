@@ -3,7 +3,9 @@
 #[path = "common/command.rs"]
 mod command;
 
+use std::ffi::OsStr;
 use std::fs;
+use std::os::unix::ffi::OsStrExt;
 use std::process::{Command, Stdio};
 
 use command::{folder, in_a_shell, mwishovala, ran, with_f, COMMANDS, PROGRAM};
@@ -110,6 +112,32 @@ fn nothing_else_passes_for_isolated() {
     ] {
         let ran = mwishovala(&folder, arguments, &[]);
         assert_eq!((ran.status, ran.out.len()), (2, 0), "{arguments:?}");
+    }
+}
+
+/// Words that are no text, at every place.
+#[test]
+fn bytes_are_no_answer() {
+    let folder = with_f("bytes");
+    let odd = [
+        &[0xff][..],
+        b"-\xff",
+        b"--asked=\xff",
+        b"--\xff",
+        b"1\xff",
+        b"\xff=1",
+    ];
+    let line = ["verdict", "f.fabric", "1"].map(OsStr::new);
+    for bytes in odd.map(OsStr::from_bytes) {
+        for place in 0..line.len() {
+            let mut replaced = line;
+            replaced[place] = bytes;
+            let mut inserted = line.to_vec();
+            inserted.insert(place, bytes);
+            for words in [&replaced[..], &inserted] {
+                assert_eq!(mwishovala(&folder, words, &[]).status, 2, "{words:?}");
+            }
+        }
     }
 }
 

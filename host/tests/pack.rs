@@ -99,6 +99,21 @@ fn a_text_is_not_packed_over_itself() {
     }
 }
 
+/// Nor are names written over it.
+#[test]
+fn a_text_is_not_lost_to_names() {
+    let folder = with_f("names-over-text");
+    let text = format!("{F}name 1 storage-a\n");
+    fs::write(folder.join("new.names"), &text).unwrap();
+    let ran = ran(&folder, "pack new.names new");
+    assert_eq!(
+        ran.err,
+        "mwishovala: new.names: it is the text itself, which would be lost\n"
+    );
+    assert_eq!(fs::read_to_string(folder.join("new.names")).unwrap(), text);
+    assert!(!folder.join("new").exists());
+}
+
 /// A link goes on leading to the file, and who may read it still may.
 #[test]
 fn links_and_permissions_stay() {

@@ -16,9 +16,9 @@ use given::Given;
 pub(super) enum Order {
     /// The help, the version, the manual page or completions; and the status.
     Print(String, u8),
-    Verdict(Asked),
+    Verdict(Trace),
     Gate(Gate),
-    List(Asked),
+    List(Trace),
     Run(Packet),
     Audit(Audit),
     Show(Source),
@@ -30,7 +30,7 @@ pub(super) enum Order {
 }
 
 /// A verdict or a list.
-pub(super) struct Asked {
+pub(super) struct Trace {
     pub(super) file: Source,
     pub(super) query: Query,
     pub(super) json: bool,
@@ -109,9 +109,9 @@ pub(super) fn parse(words: Vec<OsString>) -> Result<Order, Failure> {
 
 fn order(command: &Command, given: &mut Given) -> Result<Order, Failure> {
     Ok(match command.name {
-        "verdict" => Order::Verdict(given.asked()?),
+        "verdict" => Order::Verdict(given.trace()?),
         "gate" => Order::Gate(given.gate()?),
-        "list" => Order::List(given.asked()?),
+        "list" => Order::List(given.trace()?),
         "run" => Order::Run(given.packet()?),
         "audit" => Order::Audit(given.audit()?),
         "show" => Order::Show(given.source()?),
@@ -172,10 +172,10 @@ impl Given {
         })
     }
 
-    fn asked(&mut self) -> Result<Asked, Failure> {
+    fn trace(&mut self) -> Result<Trace, Failure> {
         let file = self.source()?;
         let target = self.port()?;
-        Ok(Asked {
+        Ok(Trace {
             file,
             query: self.query(target)?,
             json: self.flag("--json"),

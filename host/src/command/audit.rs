@@ -36,16 +36,12 @@ struct Senders {
 }
 
 pub(super) fn audit(audit: &Audit, out: Output) -> Result<u8, Failure> {
-    let loaded = audit.file.load()?;
+    let loaded = audit.file.load_named()?;
     let edges = &loaded.fabric.edges;
     if edges.is_empty() {
         return Err(audit.file.failed(NOTHING_TO_ISOLATE));
     }
-    let inquiry = Inquiry {
-        command: "audit",
-        loaded: &loaded,
-        asked: Asked::EveryTarget(audit.query),
-    };
+    let inquiry = Inquiry::of("audit", &loaded, Asked::EveryTarget(audit.query));
     let rows = threads::each(edges, audit.jobs, "edge ports", |target| {
         Row::examine(&loaded, target, &audit.query)
     })?;

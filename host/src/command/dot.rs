@@ -35,7 +35,7 @@ struct Marks {
 }
 
 pub(super) fn dot(picture: &Picture, out: Output) -> Result<u8, Failure> {
-    let loaded = picture.file.load()?;
+    let loaded = picture.file.load_named()?;
     let text = match picture.query {
         None => {
             let (file, digest) = (&loaded.name, loaded.digest);
@@ -43,11 +43,7 @@ pub(super) fn dot(picture: &Picture, out: Output) -> Result<u8, Failure> {
             said + &draw(&loaded, None)
         }
         Some(query) => {
-            let inquiry = Inquiry {
-                command: "dot",
-                loaded: &loaded,
-                asked: Asked::Target(query),
-            };
+            let inquiry = Inquiry::of("dot", &loaded, Asked::Target(query));
             let marks = judge(&inquiry, &query)?;
             let said = inquiry.lines().into_iter();
             let said: String = said.map(|line| format!("// {line}\n")).collect();

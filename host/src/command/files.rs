@@ -14,9 +14,9 @@ use super::{Failure, Output, DONE};
 use crate::digest::Digest;
 use crate::fabric::Fabric;
 use crate::limits::MOST_PORT;
-use crate::names::Names;
+use crate::names::{Names, Unreadable};
 use crate::refusal::{Question, Refusal};
-use crate::text::{self, Packed};
+use crate::text;
 
 /// Longer input is no fabric and no text of one.
 const MOST_BYTES: u64 = 16 << 20;
@@ -70,6 +70,19 @@ impl Source {
         Failure::Error(format!("{}: {why}", self.name()))
     }
 
+    /// The fabric, and the names that are kept beside it.
+    pub(super) fn load_named(&self) -> Result<Loaded, Failure> {
+        let names = match self.is_standard() {
+            true => Ok(Names::default()),
+            false => Names::beside(self.0.as_ref()),
+        };
+        let failed = |unreadable: Unreadable| Failure::Error(unreadable.to_string());
+        Ok(Loaded {
+            names: names.map_err(failed)?,
+            ..self.load()?
+        })
+    }
+
     /// The fabric, if the proved library accepts it.
     pub(super) fn load(&self) -> Result<Loaded, Failure> {
         let bytes = self.read()?;
@@ -77,7 +90,7 @@ impl Source {
             Ok(fabric) => Ok(Loaded {
                 name: self.name(),
                 digest: Digest::of(&bytes),
-                names: self.names()?,
+                names: Names::default(),
                 bytes,
                 fabric,
             }),
@@ -92,15 +105,6 @@ impl Source {
                     false => refusal,
                 },
             }),
-        }
-    }
-
-    /// The names that are kept beside it.
-    fn names(&self) -> Result<Names, Failure> {
-        match self.is_standard() {
-            true => Ok(Names::default()),
-            false => Names::beside(self.0.as_ref())
-                .map_err(|unreadable| Failure::Error(unreadable.to_string())),
         }
     }
 }
@@ -173,7 +177,7 @@ fn looks_like_text(bytes: &[u8], refusal: &Refusal) -> bool {
 }
 
 pub(super) fn show(file: &Source, out: Output) -> Result<u8, Failure> {
-    let loaded = file.load()?;
+    let loaded = file.load_named()?;
     writeln!(out, "# mwishovala {VERSION}, sha256 {}", loaded.digest)?;
     let text = text::show_named(&loaded.fabric, &loaded.names);
     out.write_all(text.as_bytes())?;
@@ -182,35 +186,40 @@ pub(super) fn show(file: &Source, out: Output) -> Result<u8, Failure> {
 
 /// Nothing is written unless all of the text is right, and never over it.
 pub(super) fn pack(text: &Source, file: &OsStr, out: Output) -> Result<u8, Failure> {
-    let name = text.name();
-    let failed = |error: &str| Failure::Error(format!("{}: {error}", printable(file)));
-    if text.is_the_file(file.as_ref()) {
-        return Err(failed("it is the text itself, which would be lost"));
+    let beside = Names::file_of(file.as_ref());
+    for written in [file, beside.as_os_str()] {
+        if text.is_the_file(written.as_ref()) {
+            return Err(failed(
+                written,
+                "it is the text itself, which would be lost",
+            ));
+        }
     }
-    let bytes = text.read()?;
-    let said = String::from_utf8(bytes)
+    let name = text.name();
+    let said = String::from_utf8(text.read()?)
         .map_err(|_| Failure::Error(format!("{name}: it isn't text (UTF-8)")))?;
-    let Packed {
-        file: packed,
-        names,
-        ..
-    } = text::pack_named(&said).map_err(|wrong| Failure::Error(format!("{name}:{wrong}")))?;
+    let packed =
+        text::pack_named(&said).map_err(|wrong| Failure::Error(format!("{name}:{wrong}")))?;
     if file == "-" {
-        out.write_all(&packed)?;
+        out.write_all(&packed.file)?;
         return Ok(DONE);
     }
-    // Names first: beside a fabric without them they are harmless.
-    if !names.is_empty() {
-        let beside = Names::file_of(file.as_ref());
-        let failed = |error| Failure::Error(format!("{}: {error}", beside.display()));
-        replace(&beside, names.to_string().as_bytes()).map_err(failed)?;
+    if !packed.names.is_empty() {
+        write(beside.as_os_str(), packed.names.to_string().as_bytes())?;
     }
-    replace(file.as_ref(), &packed).map_err(|error| failed(&error.to_string()))?;
-    let digest = Digest::of(&packed);
+    write(file, &packed.file)?;
+    let (name, digest) = (printable(file), Digest::of(&packed.file));
     writeln!(
         out,
-        "packed {}, sha256 {digest}, by mwishovala {VERSION}",
-        printable(file)
+        "packed {name}, sha256 {digest}, by mwishovala {VERSION}"
     )?;
     Ok(DONE)
+}
+
+fn write(file: &OsStr, bytes: &[u8]) -> Result<(), Failure> {
+    replace(file.as_ref(), bytes).map_err(|error| failed(file, error))
+}
+
+fn failed(file: &OsStr, why: impl std::fmt::Display) -> Failure {
+    Failure::Error(format!("{}: {why}", printable(file)))
 }

@@ -17,11 +17,7 @@ pub(super) fn gate(gate: &Gate, out: Output) -> Result<u8, Failure> {
         budget: gate.budget,
         ..Query::all_wild(gate.target)
     };
-    let inquiry = Inquiry {
-        command: "gate",
-        loaded: &loaded,
-        asked: Asked::Target(query),
-    };
+    let inquiry = Inquiry::of("gate", &loaded, Asked::Target(query));
     let verdict = threads::call(|| verdict(&loaded.bytes, &query))?
         .map_err(|refusal| inquiry.refused(refusal))?;
     let (target, hops, digest) = (query.port, query.hops, loaded.digest);

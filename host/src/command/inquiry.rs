@@ -15,9 +15,9 @@ const COVERED: &str = "IPv4 headers; ARP, IPv6 and other frames are not told apa
 
 /// What is asked of a fabric.
 pub(super) struct Inquiry<'l> {
-    pub(super) command: &'static str,
+    command: &'static str,
     pub(super) loaded: &'l Loaded,
-    pub(super) asked: Asked,
+    asked: Asked,
 }
 
 #[derive(Clone, Copy)]
@@ -35,6 +35,14 @@ pub(super) enum Asked {
 }
 
 impl Inquiry<'_> {
+    pub(super) fn of<'l>(command: &'static str, loaded: &'l Loaded, asked: Asked) -> Inquiry<'l> {
+        Inquiry {
+            command,
+            loaded,
+            asked,
+        }
+    }
+
     /// The query of a verdict or a list.
     fn query(&self) -> Option<&Query> {
         match &self.asked {

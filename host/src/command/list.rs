@@ -3,10 +3,10 @@
 
 use std::io;
 
-use super::arguments::Asked;
+use super::arguments::Trace;
 use super::files::Loaded;
 use super::foreign::Share;
-use super::inquiry::{self, Inquiry};
+use super::inquiry::{Asked, Inquiry};
 use super::json::{self, Json};
 use super::judged::leads_further;
 use super::table::table;
@@ -18,19 +18,15 @@ use crate::query::Query;
 /// The most bytes that a list may take.
 const MOST_AREA: usize = 256 << 20;
 
-pub(super) fn list(asked: &Asked, out: Output) -> Result<u8, Failure> {
-    let loaded = asked.file.load()?;
-    let inquiry = Inquiry {
-        command: "list",
-        loaded: &loaded,
-        asked: inquiry::Asked::Target(asked.query),
-    };
+pub(super) fn list(trace: &Trace, out: Output) -> Result<u8, Failure> {
+    let loaded = trace.file.load_named()?;
+    let inquiry = Inquiry::of("list", &loaded, Asked::Target(trace.query));
     let mut area = Vec::new();
-    let finds = threads::call(|| list_growing(&loaded.bytes, &mut area, MOST_AREA, &asked.query))?
+    let finds = threads::call(|| list_growing(&loaded.bytes, &mut area, MOST_AREA, &trace.query))?
         .map_err(|refusal| inquiry.refused(refusal))?;
-    let target = asked.query.port;
-    match asked.json {
-        true => in_json(out, &inquiry, &asked.query, finds)?,
+    let target = trace.query.port;
+    match trace.json {
+        true => in_json(out, &inquiry, &trace.query, finds)?,
         false => in_words(out, &inquiry, target, finds)?,
     }
     Ok(DONE)

@@ -9,17 +9,17 @@ use crate::calls;
 use crate::run::{Fate, Run};
 
 pub(super) fn run(packet: &Packet, out: Output) -> Result<u8, Failure> {
-    let loaded = packet.file.load()?;
+    let loaded = packet.file.load_named()?;
     let (start, header, hops) = (packet.start, packet.header, packet.hops);
-    let inquiry = Inquiry {
-        command: "run",
-        loaded: &loaded,
-        asked: Asked::Packet {
+    let inquiry = Inquiry::of(
+        "run",
+        &loaded,
+        Asked::Packet {
             start,
             header,
             hops,
         },
-    };
+    );
     let run = threads::call(|| calls::run(&loaded.bytes, start, header, hops))?
         .map_err(|refusal| inquiry.refused(refusal))?;
     if packet.json {

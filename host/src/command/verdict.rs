@@ -1,27 +1,23 @@
 //! `mwishovala verdict`.
 
-use super::arguments::Asked;
-use super::inquiry::{self, Inquiry};
+use super::arguments::Trace;
+use super::inquiry::{Asked, Inquiry};
 use super::judged::Judged;
 use super::{describe, json, threads, Failure, Output, ISOLATED, REACHED};
 use crate::query::Query;
 use crate::verdict::Verdict;
 
-pub(super) fn verdict(asked: &Asked, out: Output) -> Result<u8, Failure> {
-    let loaded = asked.file.load()?;
-    let inquiry = Inquiry {
-        command: "verdict",
-        loaded: &loaded,
-        asked: inquiry::Asked::Target(asked.query),
-    };
-    let judged = threads::call(|| Judged::of(&loaded, &asked.query))?
+pub(super) fn verdict(trace: &Trace, out: Output) -> Result<u8, Failure> {
+    let loaded = trace.file.load_named()?;
+    let inquiry = Inquiry::of("verdict", &loaded, Asked::Target(trace.query));
+    let judged = threads::call(|| Judged::of(&loaded, &trace.query))?
         .map_err(|refusal| inquiry.refused(refusal))?;
-    if asked.json {
+    if trace.json {
         let mut members = inquiry.in_json();
         members.extend(judged.in_json(&loaded.fabric));
         json::write(out, members)?;
     } else {
-        out.write_all(in_words(&inquiry, &asked.query, &judged).as_bytes())?;
+        out.write_all(in_words(&inquiry, &trace.query, &judged).as_bytes())?;
         inquiry.in_words(out)?;
     }
     Ok(match judged.is_reached() {

@@ -2,6 +2,7 @@
 
 #![allow(dead_code)]
 
+use std::ffi::OsStr;
 use std::fs;
 use std::io::Write;
 use std::path::{Path, PathBuf};
@@ -33,7 +34,7 @@ impl Ran {
 pub const PROGRAM: &str = env!("CARGO_BIN_EXE_mwishovala");
 
 /// Runs the command there. It never panics and is never killed.
-pub fn mwishovala(folder: &Path, arguments: &[&str], input: &[u8]) -> Ran {
+pub fn mwishovala(folder: &Path, arguments: &[impl AsRef<OsStr>], input: &[u8]) -> Ran {
     let mut command = Command::new(PROGRAM);
     command.args(arguments);
     finished(command.current_dir(folder), input)
