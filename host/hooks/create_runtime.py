@@ -93,5 +93,6 @@ def ask(command, fabric, port):
 if __name__ == "__main__":
     try:
         main(sys.argv[1:])
-    except (Refused, OSError, ValueError, subprocess.SubprocessError) as why:
+    # Whatever it is that goes wrong, the container stays down.
+    except Exception as why:
         sys.exit(f"mwishovala hook: {why}")

@@ -53,6 +53,7 @@ fn bad_use_is_told() {
         ("vrdict f.fabric 2", "there is no command 'vrdict'"),
         ("verdict", "a fabric file is missing"),
         ("verdict f.fabric", "a target port is missing"),
+        ("dot f.fabric --hops 3", "a target port is missing"),
         ("verdict f.fabric two", "a target port: 'two' is no number"),
         ("verdict f.fabric +2", "a target port: '+2' is no number"),
         ("verdict f.fabric 2 3", "'3' is one argument too many"),

@@ -217,7 +217,8 @@ impl Given {
 
     fn picture(&mut self) -> Result<Picture, Failure> {
         let file = self.source()?;
-        let query = match self.is_empty() {
+        // An option asks about a target, so it needs one.
+        let query = match self.is_empty() && !self.has_settings() {
             true => None,
             false => {
                 let target = self.port()?;

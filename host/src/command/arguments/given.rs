@@ -89,6 +89,11 @@ impl Given {
         self.operands.is_empty()
     }
 
+    /// Some option is given.
+    pub(super) fn has_settings(&self) -> bool {
+        !self.settings.is_empty()
+    }
+
     /// What the next operand is.
     fn what(&self) -> &'static str {
         let operand = self.command.operands.get(self.taken);
