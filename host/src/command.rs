@@ -4,16 +4,19 @@ mod arguments;
 mod audit;
 mod describe;
 mod dot;
-mod files;
 mod foreign;
 mod gate;
 mod inquiry;
 mod json;
 mod judged;
 mod list;
+mod loaded;
 mod manual;
+mod pack;
 mod replace;
 mod run;
+mod show;
+mod source;
 mod table;
 mod threads;
 mod verdict;
@@ -92,8 +95,8 @@ fn perform(order: Order, out: Output) -> Result<u8, Failure> {
         Order::List(trace) => list::list(&trace, out),
         Order::Run(packet) => run::run(&packet, out),
         Order::Audit(audit) => audit::audit(&audit, out),
-        Order::Show(file) => files::show(&file, out),
-        Order::Pack { text, file } => files::pack(&text, &file, out),
+        Order::Show(file) => show::show(&file, out),
+        Order::Pack { text, file } => pack::pack(&text, &file, out),
         Order::Dot(picture) => dot::dot(&picture, out),
     }
 }

@@ -183,7 +183,8 @@ fn another_command() {
 #[test]
 fn state_is_no_state() {
     let folder = configured("hook-state");
-    for state in ["", "no JSON", "{", "{}{}", "\u{feff}{}"] {
+    let deep = "[".repeat(100_000);
+    for state in ["", "no JSON", "{", "{}{}", "\u{feff}{}", &deep] {
         is_refused(&folder, state, "");
     }
     for state in [

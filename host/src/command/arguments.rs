@@ -5,8 +5,8 @@ mod given;
 use std::ffi::{OsStr, OsString};
 use std::thread::available_parallelism;
 
-use super::files::Source;
 use super::manual::{self, Command, Shell};
+use super::source::Source;
 use super::{Failure, DONE, NO_ANSWER};
 use crate::header::{Header, HeaderSet};
 use crate::limits::MOST_HOPS;

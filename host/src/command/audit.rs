@@ -3,10 +3,10 @@
 mod report;
 
 use super::arguments::Audit;
-use super::files::Loaded;
 use super::foreign::Share;
 use super::inquiry::{Asked, Inquiry};
 use super::judged::Judged;
+use super::loaded::Loaded;
 use super::{threads, Failure, Output, ISOLATED, NO_ANSWER, REACHED};
 use crate::calls::list_growing;
 use crate::fabric::Fabric;

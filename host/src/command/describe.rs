@@ -2,7 +2,7 @@
 
 use std::fmt::Write;
 
-use super::files::Loaded;
+use super::loaded::Loaded;
 use crate::field::Field;
 use crate::header::{Header, HeaderSet};
 use crate::record::Entry;
@@ -56,10 +56,14 @@ pub(super) fn rewrite(entry: &Entry) -> String {
 }
 
 pub(super) fn hops(number: u32) -> String {
-    counted(number, "hop", "hops")
+    counted(number as usize, "hop", "hops")
 }
 
-pub(super) fn counted(number: u32, one: &str, many: &str) -> String {
+pub(super) fn units(number: u32) -> String {
+    counted(number as usize, "unit", "units")
+}
+
+pub(super) fn counted(number: usize, one: &str, many: &str) -> String {
     format!("{number} {}", if number == 1 { one } else { many })
 }
 

@@ -6,8 +6,8 @@ use std::collections::BTreeMap;
 use std::fmt::Write;
 
 use super::arguments::Picture;
-use super::files::Loaded;
 use super::inquiry::{Asked, Inquiry};
+use super::loaded::Loaded;
 use super::manual::VERSION;
 use super::{describe, threads, Failure, Output, DONE};
 use crate::calls::verdict;

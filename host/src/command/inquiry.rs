@@ -1,8 +1,8 @@
 //! What was asked, which every answer says.
 
-use super::files::Loaded;
 use super::json::{self, Json, Members};
 use super::judged::leads_further;
+use super::loaded::Loaded;
 use super::manual::VERSION;
 use super::{describe, Failure, Output};
 use crate::header::{Header, HeaderSet};

@@ -1,8 +1,8 @@
 //! A verdict, with what helps people to try it out and to read it right. None
 //! of that changes it.
 
-use super::files::Loaded;
 use super::json::{self, Json, Members};
+use super::loaded::Loaded;
 use crate::calls;
 use crate::fabric::Fabric;
 use crate::frame::{instead, misfits, Misfit};

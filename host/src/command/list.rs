@@ -4,11 +4,11 @@
 use std::io;
 
 use super::arguments::Trace;
-use super::files::Loaded;
 use super::foreign::Share;
 use super::inquiry::{Asked, Inquiry};
 use super::json::{self, Json};
 use super::judged::leads_further;
+use super::loaded::Loaded;
 use super::table::table;
 use super::{describe, threads, Failure, Output, DONE};
 use crate::calls::list_growing;
@@ -38,8 +38,8 @@ fn in_words(out: Output, inquiry: &Inquiry, target: u32, finds: Finds) -> io::Re
     match finds.clone().count() {
         0 => writeln!(out, "nothing gets out at port {port}{only}")?,
         count => {
-            let finds_of = if count == 1 { "find" } else { "finds" };
-            writeln!(out, "{count} {finds_of} at port {port}{only}\n")?;
+            let count = describe::counted(count, "find", "finds");
+            writeln!(out, "{count} at port {port}{only}\n")?;
             table(out, HEADING, finds.map(|find| row(loaded, target, &find)))?;
         }
     }

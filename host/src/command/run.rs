@@ -1,9 +1,9 @@
 //! `mwishovala run`.
 
 use super::arguments::Packet;
-use super::files::Loaded;
 use super::inquiry::{Asked, Inquiry};
 use super::json::{self, Members};
+use super::loaded::Loaded;
 use super::{describe, threads, Failure, Output, DONE};
 use crate::calls;
 use crate::run::{Fate, Run};

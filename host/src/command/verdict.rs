@@ -31,7 +31,7 @@ fn in_words(inquiry: &Inquiry, query: &Query, judged: &Judged) -> String {
     let target = loaded.port(query.port);
     match &judged.verdict {
         Verdict::Isolated { units } => {
-            let units = describe::counted(*units, "unit", "units");
+            let units = describe::units(*units);
             let hops = describe::hops(query.hops);
             let only = inquiry.only();
             let further = match judged.further {
@@ -50,7 +50,7 @@ fn in_words(inquiry: &Inquiry, query: &Query, judged: &Judged) -> String {
             header,
             entries,
         } => {
-            let units = describe::counted(*units, "unit", "units");
+            let units = describe::units(*units);
             let hops = describe::hops(*hops);
             format!(
                 "reached: a foreign packet gets out at port {target} after {hops} ({units})\n\n\

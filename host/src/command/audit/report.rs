@@ -3,9 +3,9 @@
 use std::io;
 
 use super::super::describe::{counted, listed};
-use super::super::files::Loaded;
 use super::super::inquiry::{advice, Inquiry};
 use super::super::json::{self, Json};
+use super::super::loaded::Loaded;
 use super::super::table::table;
 use super::super::Output;
 use super::{Row, Senders};
@@ -15,7 +15,7 @@ pub(super) fn in_words(inquiry: &Inquiry, rows: &[Row], out: Output) -> io::Resu
     let reached = rows.iter().filter(|row| row.is_reached()).count();
     let refused = rows.iter().filter(|row| row.judged.is_err()).count();
     let isolated = rows.len() - reached - refused;
-    let ports = counted(rows.len() as u32, "edge port", "edge ports");
+    let ports = counted(rows.len(), "edge port", "edge ports");
     let only = inquiry.only();
     writeln!(
         out,

@@ -1,0 +1,14 @@
+//! `mwishovala show`.
+
+use super::manual::VERSION;
+use super::source::Source;
+use super::{Failure, Output, DONE};
+use crate::text;
+
+pub(super) fn show(file: &Source, out: Output) -> Result<u8, Failure> {
+    let loaded = file.load_named()?;
+    writeln!(out, "# mwishovala {VERSION}, sha256 {}", loaded.digest)?;
+    let text = text::show_named(&loaded.fabric, &loaded.names);
+    out.write_all(text.as_bytes())?;
+    Ok(DONE)
+}
