@@ -1,8 +1,6 @@
 //! The command for people; all of it is in the library, but for what has to be
 //! asked before Rust's start-up.
 
-use std::io;
-use std::os::fd::AsFd;
 use std::process::ExitCode;
 use std::sync::atomic::{AtomicBool, Ordering};
 
@@ -19,10 +17,12 @@ static OUTPUT_IS_OPEN: AtomicBool = AtomicBool::new(true);
 #[cfg(target_os = "linux")]
 #[used]
 #[link_section = ".init_array"]
-static BEFORE_START_UP: extern "C" fn() = look_at_the_output;
+static BEFORE_START_UP: extern "C" fn() = {
+    use std::os::fd::AsFd;
 
-#[cfg(target_os = "linux")]
-extern "C" fn look_at_the_output() {
-    let copied = io::stdout().as_fd().try_clone_to_owned();
-    OUTPUT_IS_OPEN.store(copied.is_ok(), Ordering::Relaxed);
-}
+    extern "C" fn look_at_the_output() {
+        let copied = std::io::stdout().as_fd().try_clone_to_owned();
+        OUTPUT_IS_OPEN.store(copied.is_ok(), Ordering::Relaxed);
+    }
+    look_at_the_output
+};

@@ -59,7 +59,8 @@ FABRIC.names.
 pub(super) const STATUS: Topic = Topic {
     title: "Exit status",
     text: "\
-0  verdict, gate, audit: isolated, and nothing else; the others: done
+0  verdict, gate, audit: isolated, and nothing else; the others, and help that
+   stands alone: done
 1  verdict, gate, audit: a foreign packet gets through
 2  no answer: bad use, a file that can't be read or written, a question that
    was refused, a budget that was used up, or output that couldn't be written
