@@ -6,6 +6,7 @@ mod command;
 mod json;
 
 use std::fs;
+use std::net::Ipv4Addr;
 
 use command::{folder, ran};
 use json::{parse, Value};
@@ -21,34 +22,47 @@ fn audits_agree_with_the_reference() {
         let fabric = any(rng);
         fs::write(folder.join("fabric"), write(&fabric)).unwrap();
         let jobs = rng.between(1, 3);
+        // So that some targets are refused, and some are not.
+        let budget = [2, 30, 3000][rng.below(3)];
         let ran = ran(
             &folder,
-            &format!("audit fabric --json --budget 3000 --jobs {jobs}"),
+            &format!("audit fabric --json --budget {budget} --jobs {jobs}"),
         );
         let answer = parse(ran.text()).unwrap();
         let rows = match answer.get("targets") {
             Some(rows) => rows.list().unwrap(),
             None => {
                 assert!(fabric.edges.is_empty() && answer.get("refused").is_some());
+                assert_eq!(ran.status, 2);
                 return;
             }
         };
         assert_eq!(rows.len(), fabric.edges.len());
         for (row, edge) in rows.iter().zip(&fabric.edges) {
-            check(&fabric, edge.port, row);
+            check(&fabric, edge.port, budget, row);
         }
+        assert_eq!(Some(ran.status), rows.iter().map(status).max());
     });
+}
+
+/// What a row makes of the whole audit's status, the worst of all rows.
+fn status(row: &Value) -> i32 {
+    match row.get("verdict").and_then(Value::text) {
+        Some("isolated") => 0,
+        Some("reached") => 1,
+        _ => 2,
+    }
 }
 
 fn number_at(row: &Value, names: &[&str]) -> u64 {
     row.at(names).and_then(Value::number).unwrap()
 }
 
-fn check(fabric: &Fabric, port: u16, row: &Value) {
+fn check(fabric: &Fabric, port: u16, budget: u32, row: &Value) {
     let query = Query {
         port: u32::from(port),
         limit: 16,
-        budget: 3000,
+        budget,
         care: [0; 4],
         value: [0; 4],
     };
@@ -90,8 +104,20 @@ fn check_verdict(row: &Value, words: &[u32]) {
     }
     assert_eq!(number_at(row, &["port"]), u64::from(words[2]));
     assert_eq!(number_at(row, &["hops"]), u64::from(words[3]));
-    let tp_src = u64::from(words[6] >> 16);
-    assert_eq!(number_at(row, &["header", "tp_src"]), tp_src);
+    let (ports, other) = (words[6], words[7]);
+    for (name, address) in [("nw_src", words[4]), ("nw_dst", words[5])] {
+        let text = row.at(&["header", name]).and_then(Value::text);
+        assert_eq!(text, Some(Ipv4Addr::from(address).to_string().as_str()));
+    }
+    for (name, value) in [
+        ("tp_src", ports >> 16),
+        ("tp_dst", ports & 0xffff),
+        ("dl_vlan", other >> 16),
+        ("nw_tos", other >> 8 & 0xff),
+        ("nw_proto", other & 0xff),
+    ] {
+        assert_eq!(number_at(row, &["header", name]), u64::from(value));
+    }
     let path = row.get("path").and_then(Value::list).unwrap();
     let entries: Vec<u64> = path.iter().map(|hop| number_at(hop, &["entry"])).collect();
     let expected = words[8..].iter().take(words[3] as usize);
