@@ -12,7 +12,8 @@ use Rattle.headers.specs.Sets.{intersection, undone}
 use Rattle.headers.specs.Carving.{partsAt, parts, carve}
 use Rattle.answer.specs.Answer.{Outcome, bytesOf, answered, sixteen}
 use Rattle.records.specs.Words.{wordAt, bytesFrom}
-use Rattle.questions.specs.Questions.{pick, accepted, records, passed, asked, inOrder, portsRight, setsTidy, linkFree, withinLimits, sized, started}
+use Rattle.questions.specs.Questions.{pick, accepted, records, passed, asked, sized, started}
+use Rattle.questions.specs.Questions.{inOrder, portsRight, setsTidy, linkFree, withinLimits}
 use Rattle.forwarding.specs.Fabric.{holds, beats, applied, undoes}
 use Rattle.forwarding.specs.Run.{unbeaten, takes, taker, hop, run, fateOf, portOf, headerOf, takenBy}
 use Rattle.forwarding.specs.BackTrace.{back, beaters}
@@ -44,12 +45,20 @@ unfoldable pub computingTrace : Unit {0}
 unfolding computingFabric computingBack Option·elim flatMap beats beaters carved atInPort takenUp stop
 computingTrace = tt
 
+unfoldable pub computingWords : Unit {0}
+unfolding findWords listWords sixteen reachedWords verdictWords
+computingWords = tt
+
+unfoldable pub computingHops : Unit {0}
+unfolding computingFabric positions those holds beats applied unbeaten takes taker hop run
+computingHops = tt
+
 unfoldable pub computingRun : Unit {0}
-unfolding computingFabric positions those holds beats applied unbeaten takes taker hop run fateOf portOf headerOf takenBy sixteen packetWords runCall
+unfolding computingHops fateOf portOf headerOf takenBy sixteen packetWords runCall
 computingRun = tt
 
 unfoldable pub computing : Unit {0}
-unfolding computingTrace units finds findWords listWords foreignPacket verdict unitsIn sixteen reachedWords verdictWords verdictCall listCall
+unfolding computingTrace computingWords units finds foreignPacket verdict unitsIn verdictCall listCall
 computing = tt
 
 -- ---- question 12

@@ -88,7 +88,8 @@ listedFinds =
 
 pub record Verdicts : Type 0 where
   -- within three hops the first find is foreign by its group: reached after 5 units from port 12 by entries 5, 4 and 2
-  pub three-hops : Always 96 (verdictCall G (all 3 5)) (answered (1 ∷ 5 ∷ 12 ∷ 3 ∷ (header 0 0x0a000002 6 6 ++ way (5 ∷ 4 ∷ 2 ∷ []) 13)))
+  pub three-hops : Always 96 (verdictCall G (all 3 5))
+      (answered (1 ∷ 5 ∷ 12 ∷ 3 ∷ (header 0 0x0a000002 6 6 ++ way (5 ∷ 4 ∷ 2 ∷ []) 13)))
   -- within two it is port 9's, in the target's own group: the lowest header of the first part outside its admitted set
   pub two-hops : Always 96 (verdictCall G (all 2 7)) (answered (1 ∷ 7 ∷ 9 ∷ 1 ∷ (header 0 0 0 0x10 ++ way (3 ∷ []) 15)))
   pub budget-6 : Always 96 (verdictCall G (all 2 6)) (refused 13 0)
@@ -120,11 +121,13 @@ pub record Runs : Type 0 where
       (answered (0 ∷ 0 ∷ 5 ∷ 3 ∷ (header 7 0x0a000009 6 6 ++ way (5 ∷ 4 ∷ 2 ∷ []) 13)))
   pub dropped : Always 96 (runCall G (packet 12 3 (header 7 0x0a000002 2 6)))
       (answered (1 ∷ 0 ∷ 31 ∷ 3 ∷ (header 7 0x0a000009 2 6 ++ way (5 ∷ 4 ∷ 1 ∷ []) 13)))
-  pub lost : Always 96 (runCall G (packet 12 3 (header 7 1 6 6))) (answered (2 ∷ 0 ∷ 21 ∷ 1 ∷ (header 7 1 6 6 ++ way (5 ∷ []) 15)))
+  pub lost : Always 96 (runCall G (packet 12 3 (header 7 1 6 6)))
+      (answered (2 ∷ 0 ∷ 21 ∷ 1 ∷ (header 7 1 6 6 ++ way (5 ∷ []) 15)))
   pub travelling : Always 96 (runCall G (packet 12 2 (header 7 0x0a000002 6 6)))
       (answered (3 ∷ 0 ∷ 31 ∷ 2 ∷ (header 7 0x0a000009 6 6 ++ way (5 ∷ 4 ∷ []) 14)))
   -- of two entries of the same priority the earlier one takes the packet
-  pub tie : Always 96 (runCall G (packet 9 3 (header 0 0 0 0x10))) (answered (0 ∷ 0 ∷ 5 ∷ 1 ∷ (header 0 0 0 0x10 ++ way (3 ∷ []) 15)))
+  pub tie : Always 96 (runCall G (packet 9 3 (header 0 0 0 0x10)))
+      (answered (0 ∷ 0 ∷ 5 ∷ 1 ∷ (header 0 0 0 0x10 ++ way (3 ∷ []) 15)))
   -- 9 before 10, 10 before 11, 11 before 12
   pub in-turn-9 : Always 0 (runCall G (query 9 0 0 untidy)) (refused 9 0)
   pub in-turn-10 : Always 0 (runCall G (query 6 1 0 allButTheLast)) (refused 10 0)

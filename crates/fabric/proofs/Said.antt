@@ -28,7 +28,8 @@ fit-words n l w = each l (λ k h. w .fits k (omega (arith, w .long)))
     each (a ∷ l) fits = (fits 0 (omega arith), each l (λ k h. fits (suc k) (omega arith)))
 
 -- a list is its words
-pub words-read : (n : ℕ) (f : ℕ → ℕ) (l : List ℕ) → length l ≡ n → ((w : ℕ) → w < n → f w ≡ word l w) → words n f ≡ l
+pub words-read : (n : ℕ) (f : ℕ → ℕ) (l : List ℕ) → length l ≡ n → ((w : ℕ) → w < n → f w ≡ word l w)
+    → words n f ≡ l
 words-read n f l long same =
     ext-getD 0 (words n f) l (words-long n f ∙ sym long)
     (λ w h. let m : w < n = omega (arith, words-long n f) in word-of n f w m ∙ same w m)
@@ -36,7 +37,8 @@ words-read n f l long same =
 -- ---- written and read back
 
 -- a word is the sum of its bytes
-bytes-sum : (w a b c d x y : ℕ) → w ≡ a + x * 256 → x ≡ b + y * 256 → y ≡ c + d * 256 → a + b * 2 ^ 8 + c * 2 ^ 16 + d * 2 ^ 24 ≡ w
+bytes-sum : (w a b c d x y : ℕ) → w ≡ a + x * 256 → x ≡ b + y * 256 → y ≡ c + d * 256
+    → a + b * 2 ^ 8 + c * 2 ^ 16 + d * 2 ^ 24 ≡ w
 bytes-sum w a b c d x y e₁ e₂ e₃ = omega arith
 
 four-bytes : (w : ℕ) → w < 2 ^ 32

@@ -13,7 +13,8 @@ unfolding sixteen fateOf portOf headerOf takenBy packetWords
 left-words = refl
 
 -- dropped at port 12 by entry 5
-dropped-words : packetWords (dropped 12 (1 ∷ 6 ∷ 8 ∷ 9 ∷ []) (5 ∷ [])) ≡ 1 ∷ 0 ∷ 12 ∷ 1 ∷ 1 ∷ 6 ∷ 8 ∷ 9 ∷ 5 ∷ replicate 15 0
+dropped-words : packetWords (dropped 12 (1 ∷ 6 ∷ 8 ∷ 9 ∷ []) (5 ∷ []))
+    ≡ 1 ∷ 0 ∷ 12 ∷ 1 ∷ 1 ∷ 6 ∷ 8 ∷ 9 ∷ 5 ∷ replicate 15 0
 unfolding sixteen fateOf portOf headerOf takenBy packetWords
 dropped-words = refl
 
@@ -23,6 +24,7 @@ unfolding sixteen fateOf portOf headerOf takenBy packetWords
 lost-words = refl
 
 -- still travelling, to port 12, after entries 5 and 4
-travelling-words : packetWords (travelling 12 (1 ∷ 6 ∷ 8 ∷ 9 ∷ []) (4 ∷ 5 ∷ [])) ≡ 3 ∷ 0 ∷ 12 ∷ 2 ∷ 1 ∷ 6 ∷ 8 ∷ 9 ∷ 5 ∷ 4 ∷ replicate 14 0
+travelling-words : packetWords (travelling 12 (1 ∷ 6 ∷ 8 ∷ 9 ∷ []) (4 ∷ 5 ∷ []))
+    ≡ 3 ∷ 0 ∷ 12 ∷ 2 ∷ 1 ∷ 6 ∷ 8 ∷ 9 ∷ 5 ∷ 4 ∷ replicate 14 0
 unfolding sixteen fateOf portOf headerOf takenBy packetWords
 travelling-words = refl

@@ -4,7 +4,8 @@ use mathlib.Core.List.{List, [], _∷_, _++_}
 use mathlib.Core.Path.{_≡_, refl}
 use Prim.Native.Nat.{ℕ, zero, suc}
 use Rattle.records.specs.Words.{wordAt, bytesFrom, kindOf, portOf, fromOf, rankOf}
-use Rattle.records.specs.Records.{edgeWords, entryWords, placeOf, edgeGroup, edgePort, edgeAdmitted, entryPriority, entryIn, entryOut, entryMatch, entryRewrite, portOfEdge, fromOfLink, toOfLink, inOfEntry, edgeBytes, entryBytes}
+use Rattle.records.specs.Records.{edgeWords, edgeGroup, edgePort, edgeAdmitted, edgeBytes, portOfEdge, fromOfLink, toOfLink, placeOf}
+use Rattle.records.specs.Records.{entryWords, entryPriority, entryIn, entryOut, entryMatch, entryRewrite, entryBytes, inOfEntry}
 
 -- the lowest byte first
 little-endian : wordAt (0x78 ∷ 0x56 ∷ 0x34 ∷ 0x12 ∷ 0xef ∷ 0xcd ∷ 0xab ∷ 0x90 ∷ []) 1 ≡ 0x90abcdef
@@ -12,7 +13,8 @@ unfolding wordAt
 little-endian = refl
 
 -- kind in bits 31..28, group or priority in 27..12, from-port in 23..12, port in 11..0
-fields : (kindOf 0x7fedcba9 ∷ rankOf 0x7fedcba9 ∷ fromOf 0x7fedcba9 ∷ portOf 0x7fedcba9 ∷ []) ≡ 7 ∷ 0xfedc ∷ 0xedc ∷ 0xba9 ∷ []
+fields : (kindOf 0x7fedcba9 ∷ rankOf 0x7fedcba9 ∷ fromOf 0x7fedcba9 ∷ portOf 0x7fedcba9 ∷ [])
+    ≡ 7 ∷ 0xfedc ∷ 0xedc ∷ 0xba9 ∷ []
 fields = refl
 
 -- ---- a record's words
@@ -38,7 +40,8 @@ edge-set = refl
 abbrev anEntry : List ℕ
 anEntry = 0xa9 ∷ 0xcb ∷ 0xed ∷ 0x4f ∷ 0x21 ∷ 0x03 ∷ 0 ∷ 0 ∷ counting 16 2
 
-entry-numbers : (entryWords ∷ entryPriority anEntry ∷ entryIn anEntry ∷ entryOut anEntry ∷ []) ≡ 18 ∷ 0xfedc ∷ 0xba9 ∷ 0x321 ∷ []
+entry-numbers : (entryWords ∷ entryPriority anEntry ∷ entryIn anEntry ∷ entryOut anEntry ∷ [])
+    ≡ 18 ∷ 0xfedc ∷ 0xba9 ∷ 0x321 ∷ []
 unfolding wordAt
 entry-numbers = refl
 
@@ -60,8 +63,8 @@ aFile =
     ++ anEntry ++ (0x0c ∷ 0x70 ∷ 0 ∷ 0x40 ∷ counting 17 1)
 
 -- the ports of the edges 5 and 9, of the links 20 -> 21 and 30 -> 31, and the in-ports of the entries
-ports : (portOfEdge aFile 0 ∷ portOfEdge aFile 1 ∷ fromOfLink aFile 2 0 ∷ toOfLink aFile 2 0 ∷ fromOfLink aFile 2 1 ∷ toOfLink aFile 2 1
-    ∷ inOfEntry aFile 2 2 0 ∷ inOfEntry aFile 2 2 1 ∷ [])
+ports : (portOfEdge aFile 0 ∷ portOfEdge aFile 1 ∷ fromOfLink aFile 2 0 ∷ toOfLink aFile 2 0
+    ∷ fromOfLink aFile 2 1 ∷ toOfLink aFile 2 1 ∷ inOfEntry aFile 2 2 0 ∷ inOfEntry aFile 2 2 1 ∷ [])
     ≡ 5 ∷ 9 ∷ 20 ∷ 21 ∷ 30 ∷ 31 ∷ 0xba9 ∷ 12 ∷ []
 unfolding wordAt
 ports = refl
@@ -69,6 +72,7 @@ ports = refl
 places : (placeOf 0 0 0 ∷ placeOf 2 0 0 ∷ placeOf 2 3 0 ∷ placeOf 2 3 4 ∷ []) ≡ 1 ∷ 19 ∷ 22 ∷ 94 ∷ []
 places = refl
 
-own-bytes : (edgePort (edgeBytes aFile 1) ∷ entryOut (entryBytes aFile (record { edges = 2; links = 2; entries = 2 }) 0) ∷ []) ≡ 9 ∷ 0x321 ∷ []
+own-bytes : (edgePort (edgeBytes aFile 1) ∷ entryOut (entryBytes aFile (record { edges = 2; links = 2; entries = 2 }) 0) ∷ [])
+    ≡ 9 ∷ 0x321 ∷ []
 unfolding wordAt bytesFrom
 own-bytes = refl
