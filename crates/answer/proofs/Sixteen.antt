@@ -1,4 +1,4 @@
--- Sixteen places for entries, unused ones 0: one more entry is stored in the first unused place, and what each place holds. Assumes nothing.
+-- Sixteen places for entries, unused ones 0: one more entry is stored in the first unused place; what each place holds. Assumes nothing.
 use mathlib.Core.List.{List, [], _∷_, _++_, append-assoc}
 use mathlib.Core.Path.{_≡_, sym, ap, _∙_}
 use Prim.Native.Nat.{ℕ, _+_, _-_, _≤_, _<_}

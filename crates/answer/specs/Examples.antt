@@ -1,4 +1,5 @@
--- What a call returns and leaves, computed: place and number, the lowest byte first, and the bytes past the words. Assumes nothing.
+-- What a call returns and leaves (A3 to A7), computed: place and number, the lowest byte first, and the bytes past the words. Assumes
+-- nothing.
 use mathlib.Core.List.{[], _∷_}
 use mathlib.Core.Path.{_≡_, refl}
 use Rattle.answer.specs.Answer.{bytesOf, outcome, refused, answered}

@@ -53,7 +53,7 @@ roomForAnswer area = leb (4 * answerWords) (length area)
 abbrev pub orRefused : ℕ → List ℕ → Outcome → Outcome
 orRefused number area done = pick (eqb number 0) done (refused number 0 area)
 
--- a call by its questions after 1 to 7 and the words it answers where they all get a yes
+-- D1: a call by its questions after 1 to 7, and the words that it answers where they all get a yes
 abbrev pub answerBy : (Fabric → Query → List ℕ → List Question) → (Fabric → Query → List ℕ)
     → List ℕ → Query → Read → List ℕ → Outcome
 answerBy questions words f q (Reads.No number place) area = refused number place area

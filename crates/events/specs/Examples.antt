@@ -1,4 +1,5 @@
--- The words of a find and of 'reached', computed: port, hops and entries differ, so that no two can be changed about. Assumes nothing.
+-- The words of a find (A13) and of 'reached' (A9), computed: port, hops and entries differ, so that no two can be changed about. Assumes
+-- nothing.
 use mathlib.Core.List.{[], _∷_, _++_}
 use mathlib.Core.Path.{_≡_, refl}
 use lib.ListN.{replicate}
@@ -8,7 +9,11 @@ use Rattle.events.specs.Play.{findWords, listWords, reachedWords}
 
 -- port 12, three hops by entries 5, 4 and 2
 abbrev aFind : Find
-aFind = record { port = 12; path = 5 ∷ 4 ∷ 2 ∷ []; set = record { care = 1 ∷ 2 ∷ 3 ∷ 4 ∷ []; value = 6 ∷ 7 ∷ 8 ∷ 9 ∷ [] } }
+aFind = record {
+  port = 12;
+  path = 5 ∷ 4 ∷ 2 ∷ [];
+  set = record { care = 1 ∷ 2 ∷ 3 ∷ 4 ∷ []; value = 6 ∷ 7 ∷ 8 ∷ 9 ∷ [] };
+}
 
 find-words : findWords aFind
     ≡ 0x6000300c ∷ 0x70000005 ∷ 0x70000004 ∷ 0x70000002 ∷ 1 ∷ 2 ∷ 3 ∷ 4 ∷ 6 ∷ 7 ∷ 8 ∷ 9 ∷ []

@@ -1,6 +1,6 @@
--- A second table of examples, on one richer file: links, ways of one, two and three hops, two beaters, two entries at a stop, a group and a
--- priority of more than 12 bits, a rewrite, equal priorities, an admitted set that is narrower than a find, the four fates of a run, and the
--- order of the questions. Proved in proofs/Richer.antt. Assumes nothing.
+-- A second table of examples, X15 to X19, on one richer file: links, ways of one, two and three hops, two beaters, two entries at a stop,
+-- a group and a priority of more than 12 bits, a rewrite, equal priorities, an admitted set that is narrower than a find, the four fates of
+-- a run, and the order of the questions. Proved in proofs/Richer.antt. Assumes nothing.
 use mathlib.Core.List.{List, [], _∷_, _++_}
 use mathlib.Core.Path.{_≡_}
 use Prim.Native.Nat.{ℕ, _<_}
@@ -16,8 +16,8 @@ use Rattle.calls.specs.List.{listCall}
 use Rattle.calls.specs.Run.{runCall}
 use Rattle.examples.specs.Examples.{eight, Always}
 
--- ---- fabric G: three switches in a row. Edge ports 9 and 12 are on the first, from which the link 20 -> 21 leads to the second, and from
--- there the link 30 -> 31 to the third, with edge port 5.
+-- ---- X15, fabric G: three switches in a row. Edge ports 9 and 12 are on the first, from which the link 20 -> 21 leads to the second, and
+-- from there the link 30 -> 31 to the third, with edge port 5.
 
 abbrev pub wordsOfG : List ℕ
 wordsOfG =
@@ -75,7 +75,8 @@ way path unused = path ++ replicate unused 0
 abbrev pub Short : ℕ → (List ℕ → Outcome) → (List ℕ → Outcome) → Type 0
 Short bytes call answer = (area : List ℕ) → length area < bytes → call area ≡ answer area
 
--- two parts at port 31, by entries 0 and 1 in this order; of each the finds at 12 and at 9, by entries 5 and 6 in this order; then entry 3's
+-- two parts at port 31, by entries 0 and 1 in this order; of each the finds at 12 and at 9, by entries 5 and 6 in this order; then that of
+-- entry 3
 abbrev pub listedFinds : List ℕ
 listedFinds =
     (0x6000300c ∷ 0x70000005 ∷ 0x70000004 ∷ 0x70000002 ∷ (header 0 0xffffffff 6 0xff ++ header 0 0x0a000002 6 6))
@@ -86,6 +87,7 @@ listedFinds =
 
 -- ---- the table
 
+-- X16, and X19 for the verdict
 pub record Verdicts : Type 0 where
   -- within three hops the first find is foreign by its group: reached after 5 units from port 12 by entries 5, 4 and 2
   pub three-hops : Always 96 (verdictCall G (all 3 5))
@@ -102,6 +104,7 @@ pub record Verdicts : Type 0 where
   pub in-turn-10 : Short 96 (verdictCall G (query 5 1 0 untidy)) (refused 10 0)
   pub in-turn-12 : Short 96 (verdictCall G (all 3 4)) (refused 12 0)
 
+-- X17, and X19 for the list
 pub record Lists : Type 0 where
   -- 13 units, 58 words
   pub all-finds : Always 232 (listCall G (all 3 13)) (answered listedFinds)
@@ -115,6 +118,7 @@ pub record Lists : Type 0 where
   pub in-turn-13 : Short 232 (listCall G (all 3 12)) (refused 13 0)
   pub in-turn-12 : Short 232 (listCall G (all 3 13)) (refused 12 0)
 
+-- X18, and X19 for the run
 pub record Runs : Type 0 where
   -- the four fates: left at 5; dropped by entry 1, which stands before its equal 2; lost at 21; still travelling to 31
   pub left : Always 96 (runCall G (packet 12 3 (header 7 0x0a000002 6 6)))

@@ -50,7 +50,8 @@ use Rattle.fabric.proofs.VerdictSaid as VerdictSaid
 
 -- ---- demand 1
 
-no-said : (number : ℕ) (area : List ℕ) (done : Outcome) → (number ≡ 0 → ⊥) → orRefused number area done ≡ refused number 0 area
+no-said : (number : ℕ) (area : List ℕ) (done : Outcome) → (number ≡ 0 → ⊥)
+    → orRefused number area done ≡ refused number 0 area
 no-said number area done d = rw (ne-eqb number 0 d)
 
 done-then : (number : ℕ) (area : List ℕ) (done : Outcome) → number ≡ 0 → orRefused number area done ≡ done

@@ -1,4 +1,4 @@
--- The words of finds, read by document 01's layout, are those finds. Assumes nothing.
+-- The words of finds, read by their layout (A13), are those finds. Assumes nothing.
 use mathlib.Core.Bool.{Bool, true, _&&_, cond}
 use mathlib.Core.List.{List, [], _∷_, _++_, map, append-assoc, List·Memᴰ, List·Memᴰ·head, List·Memᴰ·tail}
 use mathlib.Core.Option.{Option, some, none, Option·map}
@@ -97,7 +97,8 @@ module _ (d : Find) (s : Sayable d) (rest : List ℕ) where
 
   set-word : (w : ℕ) → word (first ∷ later) (1 + hops + w) ≡ word (d .set .care ++ (d .set .value ++ rest)) w
   set-word w =
-      ap (word (first ∷ later)) (let e : 1 + hops + w ≡ 1 + (length (entryWords (d .path)) + w) = omega (arith, entries-long (d .path)) in e)
+      ap (word (first ∷ later))
+      (let e : 1 + hops + w ≡ 1 + (length (entryWords (d .path)) + w) = omega (arith, entries-long (d .path)) in e)
       ∙ later-word (length (entryWords (d .path)) + w)
       ∙ getD-append-add (entryWords (d .path)) _ w 0
 

@@ -48,7 +48,8 @@ module _ (u : ℕ) (area : List ℕ) (low : u < 2 ^ 32) where
   unfolding verdictWords
   isolated-long = refl
 
-  isolated-word : (k : ℕ) → k < answerWords → said (answered (verdictWords (isolated u)) area) k ≡ word (verdictWords (isolated u)) k
+  isolated-word : (k : ℕ) → k < answerWords
+      → said (answered (verdictWords (isolated u)) area) k ≡ word (verdictWords (isolated u)) k
   isolated-word k l = said-word (verdictWords (isolated u)) area isolated-fit k (omega (arith, isolated-long))
 
   pub isolated-word-0 : said (answered (verdictWords (isolated u)) area) 0 ≡ 0

@@ -1,5 +1,5 @@
--- The calls, as one: each is its questions after 1 to 7 and its words where they all get a yes. A further call is a row of each table here.
--- Assumes nothing.
+-- The calls (A1), as one: each is its questions after 1 to 7 and its words where they all get a yes. A further call is a row of each table
+-- here. Assumes nothing.
 use mathlib.Core.List.{List}
 use Prim.Native.Nat.{ℕ}
 use Rattle.answer.specs.Answer.{Outcome}
@@ -13,11 +13,13 @@ use Rattle.calls.specs.Run.{runQuestions, runWordsAsked, runCall}
 use Rattle.fabric.specs.declared.Call.{Call}
 use Rattle.fabric.specs.declared.Call.the-variants as Calls
 
+-- O2: the questions after 1 to 7, in turn
 abbrev pub questionsOf : Call → Fabric → Query → List ℕ → List Question
 questionsOf Calls.Verdict = verdictQuestions
 questionsOf Calls.List = listQuestions
 questionsOf Calls.Run = runQuestions
 
+-- A9 to A14: the words of an answer
 abbrev pub wordsOf : Call → Fabric → Query → List ℕ
 wordsOf Calls.Verdict = verdictWordsAsked
 wordsOf Calls.List = wordsAsked

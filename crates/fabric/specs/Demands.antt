@@ -1,5 +1,5 @@
--- The user's three demands. proofs/Demands.antt proves them. They speak of forwarding, and of what a call returns and leaves in the area
--- lent: that a call ends, and returns and leaves what `callOf` says, is its contract. Assumes nothing.
+-- The user's three demands, clauses D1 to D3e; proofs/Demands.antt proves them. They speak of forwarding, and of what a call returns and
+-- leaves in the area lent: that a call ends, and returns and leaves what `callOf` says, is its contract. Assumes nothing.
 use mathlib.Core.Bool.{Bool, true, _&&_, cond}
 use mathlib.Core.List.{List, [], _∷_, _++_, List·Memᴰ}
 use mathlib.Core.Logic.{_↔_}
@@ -31,8 +31,8 @@ use Rattle.fabric.specs.declared.Call.{Call}
 
 -- ---- demand 1
 
--- "Every call ends, answers the number of the first question of document 01 that gets a no, and then changes no byte it was lent."
--- Of each call: verdict, list and run, with the questions and the words that `questionsOf` and `wordsOf` name.
+-- D1: a call answers the first question that gets a no and then changes no byte lent, or else its words. Of each call, verdict, list and
+-- run, with the questions and the words that `questionsOf` and `wordsOf` name.
 pub record Demand1 (c : Call) (f : List ℕ) (q : Query) (area : List ℕ) : Type 0 where
   -- questions 1 to 7
   pub file-refused : (number place : ℕ) → accepted f ≡ No number place → callOf c f q area ≡ refused number place area
@@ -44,8 +44,7 @@ pub record Demand1 (c : Call) (f : List ℕ) (q : Query) (area : List ℕ) : Typ
 
 -- ---- demand 2
 
--- "A header stands in an entry's back-traced set for an exit set exactly when that entry, and no better one, takes it and its rewritten
--- header lies in the exit set."
+-- D2: a header is in a part of entry e traced back for the exit set t exactly if e takes it and the header that e makes of it is in t
 abbrev pub Demand2 : Fabric → Type 0
 Demand2 f =
     (e : ℕ) (t : Set) (h : Header) → e < f .entries → WellFormed (f .words) t → Words (f .words) h
@@ -54,21 +53,21 @@ Demand2 f =
 
 -- ---- what a call says: its words, read back from the area
 
--- "success has number 0", number being what is returned modulo 256 ..
+-- A4, A5: the number is what is returned modulo 256, and is 0 for a success ..
 abbrev pub Succeeds : Outcome → Type 0
 Succeeds o = o .returned % 256 ≡ 0
 
--- .. "and as place the words written"
+-- .. and the place is how many words were written
 abbrev pub wordsWritten : Outcome → ℕ
 wordsWritten o = o .returned / 256
 
--- "answers are little-endian words": word k of the area afterwards
+-- A3: word k of the area afterwards, the lowest byte first
 abbrev pub said : Outcome → ℕ → ℕ
 said o k = wordAt (o .area) k
 
 -- ---- demand 3, the verdict
 
--- the first find with a foreign packet, and the units made before it
+-- V4: the first find with a foreign packet, and the units made before it
 pub record FirstForeign (f : Fabric) (q : Query) (u p : ℕ) (path : List ℕ) (h : Header) : Type 0 where
   pub before : List Event
   pub at : Find
@@ -80,7 +79,7 @@ pub record FirstForeign (f : Fabric) (q : Query) (u p : ℕ) (path : List ℕ) (
   pub port-is : at .port ≡ p
   pub path-is : at .path ≡ path
 
--- "0 isolated or 1 reached; units made; edge port; hops; header (4); entries in travelling order (16, unused ones 0)"
+-- A9: word 0 is 0 for isolated and 1 for reached; then units, edge port, hops, the header, and the entries in travelling order
 module _ (o : Outcome) where
   abbrev pub unitsSaid : ℕ
   unitsSaid = said o 1
@@ -98,26 +97,26 @@ module _ (o : Outcome) where
   entriesSaid = wordsFrom hopsSaid (o .area) (4 + headerWords)
 
 pub record VerdictSays (f : Fabric) (q : Query) (o : Outcome) : Type 0 where
-  -- "It fills 24 words", and word 0 is 0 or 1
+  -- A9: it fills 24 words, and word 0 is 0 or 1
   pub fills : wordsWritten o ≡ answerWords
   pub one-or-other : (said o 0 ≡ 0 → ⊥) → said o 0 ≡ 1
-  -- "'Isolated' exactly when no foreign packet arrives"; "Isolated has 0 from word 2 on."
+  -- D3a: isolated exactly if no foreign packet arrives; A10: then 0 from word 2 on
   pub isolated-exactly : said o 0 ≡ 0 ↔ NoLeak f (q .limit) (q .port) (q .asked)
   pub isolated-rest : said o 0 ≡ 0 → (k : ℕ) → 2 ≤ k → k < answerWords → said o k ≡ 0
-  -- "otherwise the packet document 01 names": that of the first find with a foreign packet ..
+  -- D3b: else the packet is that of the first find with a foreign packet ..
   pub reached-first : said o 0 ≡ 1 → FirstForeign f q (unitsSaid o) (portSaid o) (entriesSaid o) (headerSaid o)
-  -- ".. with its hops and entries": it is foreign and arrives, by as many hops and by the entries said
+  -- .. it is foreign and arrives, by as many hops and by the entries said; A12: unused words are 0
   pub reached-leak : said o 0 ≡ 1 → Leak f (q .limit) (q .port) (q .asked) (portSaid o) (entriesSaid o) (headerSaid o)
   pub reached-hops : said o 0 ≡ 1 → hopsSaid o ≡ hopsMade (run f (q .limit) (portSaid o) (headerSaid o))
   pub reached-rest : said o 0 ≡ 1 → (k : ℕ) → 4 + headerWords + hopsSaid o ≤ k → k < answerWords → said o k ≡ 0
-  -- "units are document 01's count": 'isolated' has those of the whole back-trace, 'reached' those before its find (reached-first)
+  -- D3d: isolated has the units of the whole back-trace, reached those before its find (reached-first), and the budget had them
   pub isolated-units : said o 0 ≡ 0 → unitsSaid o ≡ units (traceAsked f q)
   pub within-budget : unitsSaid o ≤ q .budget
 
 -- ---- demand 3, the list
 
--- the find at the head of some words: "word of kind 6 (bits 27..12 hops, 11..0 edge port); for each entry in travelling order a word of
--- kind 7 with its number below; care (4), value (4)"
+-- A13, the find at the head of some words: a word of kind 6 with hops and edge port, for each entry one of kind 7 with its number, care
+-- and value
 module _ (ws : List ℕ) where
   abbrev pub hopsRead : ℕ
   hopsRead = bits 27 12 (word ws 0)
@@ -156,30 +155,30 @@ abbrev pub findsSaid : Outcome → Option (List Find)
 findsSaid o = findsRead (wordsWritten o) (wordsFrom (wordsWritten o) (o .area) 0)
 
 pub record ListSays (f : Fabric) (q : Query) (o : Outcome) : Type 0 where
-  -- the words written are the finds of the back-trace, in its order
+  -- D3c: the words written are the finds of the back-trace, in its order
   pub listed : findsSaid o ≡ some (finds (traceAsked f q))
-  -- "the list holds each arriving pair just once and nothing else": of the finds at an edge port that hold a header, the paths are the
-  -- entries of its run, once, if the pair arrives, and else there is none
+  -- D3c: each pair that arrives is in just one find, and no other pair is: of the finds at an edge port that hold a header, the paths are
+  -- the entries of its run, once, if the pair arrives, and else there is none
   pub listed-once : (p : ℕ) (h : Header) → f .isEdge p ≡ true → Words (f .words) h
       → pathsFor (f .words) p h (finds (traceAsked f q))
       ≡ cond (arrives f (q .limit) (q .port) (q .asked) p h) (entriesTaken (run f (q .limit) p h) ∷ []) []
-  -- "each with its hops and entries": a find is a set of headers at an edge port, and each of its packets arrives by its hops and entries
+  -- D3c: a find is a set of headers at an edge port, and each of its packets arrives by its hops and entries
   pub listed-edge : (d : Find) → List·Memᴰ d (finds (traceAsked f q)) → f .isEdge (d .port) ≡ true
   pub listed-set : (d : Find) → List·Memᴰ d (finds (traceAsked f q)) → WellFormed (f .words) (d .set)
   pub listed-arrive : (d : Find) → List·Memᴰ d (finds (traceAsked f q)) → (h : Header) → Words (f .words) h
       → contains (f .words) (d .set) h ≡ true → Arrives f (q .limit) (q .port) (q .asked) (d .port) (d .path) h
-  -- "units are document 01's count"
+  -- D3d: the budget had the units of the whole back-trace
   pub within-budget : units (traceAsked f q) ≤ q .budget
 
 -- ---- demand 3
 
--- "words 1 to 11 of the program's query .. as 32-bit numbers"
+-- A2: the calls are handed numbers of 32 bits
 pub record OfWords (q : Query) : Type 0 where
   pub budget : q .budget < 2 ^ 32
   pub care : Words headerWords (q .asked .care)
   pub value : Words headerWords (q .asked .value)
 
--- of every file, query and area: a verdict and a list that succeed say what forwarding does
+-- D3e: of every file, query and area, a verdict and a list that succeed say what forwarding does
 pub record Demand3 (f : List ℕ) (q : Query) (area : List ℕ) : Type 0 where
   pub verdict-says : Succeeds (verdictCall f q area) → VerdictSays (fabricIn f) q (verdictCall f q area)
   pub list-says : Succeeds (listCall f q area) → ListSays (fabricIn f) q (listCall f q area)

@@ -146,8 +146,8 @@ one-hop = refl
 
 -- ---- orders
 
--- entry 2 has two beaters: "Carve by the entries that beat it, in file order", though entry 1 has the higher priority; "each part is then
--- tried against the next beater, its whole descent before its next sibling"
+-- T5, T7: entry 2 is carved by its two beaters in file order, though entry 1 has the higher priority, and a part's whole descent comes
+-- before its next sibling
 abbrev twoBeaters : Fabric
 twoBeaters = fabric
     (entryOf 20 1 0 (set (header 0 0 3 0) (header 0 0 1 0)) (noRewrite 4)
@@ -166,7 +166,7 @@ beaters-in-file-order : trace twoBeaters 1 2 (allWild 4)
 unfolding computing
 beaters-in-file-order = refl
 
--- "the entries with that out-port are taken up in file order", though entry 1 has the higher priority
+-- T3: entries are taken up in file order, though entry 1 has the higher priority
 abbrev twoAtStop : Fabric
 twoAtStop = fabric (entryOf 10 1 2 (tpDst 22) (noRewrite 4) ∷ entryOf 30 1 2 (tpDst 80) (noRewrite 4) ∷ [])
 
@@ -180,7 +180,7 @@ entries-in-file-order : trace twoAtStop 1 2 (allWild 4)
 unfolding computing
 entries-in-file-order = refl
 
--- "the lowest of the first part of the find carved by the admitted set": port 1 is in the target's group, and admits tp_dst that end in 01
+-- V3: the lowest header of the first part outside the admitted set; port 1 is in the target's group, and admits tp_dst that end in 01
 abbrev ownGroup : Fabric
 ownGroup = record {
   words = 4;

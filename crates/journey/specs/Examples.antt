@@ -1,4 +1,4 @@
--- The words of a packet's run, computed for each fate: no two of its numbers agree. Assumes nothing.
+-- The words of a packet's run (A11), computed for each fate (W9): port, hops and entries differ. Assumes nothing.
 use mathlib.Core.List.{[], _∷_}
 use mathlib.Core.Path.{_≡_, refl}
 use lib.ListN.{replicate}

@@ -1,5 +1,5 @@
--- What a link of an accepted file means, whatever else is in the file: what is sent out at its from-port comes in at its to-port, and
--- whatever comes over a link comes over one of the file's. Assumes nothing.
+-- What a link of an accepted file means (F5, W5), whatever else is in the file: what is sent out at its from-port comes in at its
+-- to-port, and whatever comes over a link comes over one of the file's. Assumes nothing.
 use mathlib.Core.List.{List}
 use mathlib.Core.Path.{_≡_, refl, sym, ap, _∙_}
 use Prim.Native.Nat.{ℕ, zero, suc, _<_}

@@ -1,14 +1,15 @@
--- The words of a query, each its own number, computed: which is which. Assumes nothing.
+-- The words of a query (P2), each its own number, computed: which is which. Assumes nothing.
 use mathlib.Core.List.{[], _∷_}
 use mathlib.Core.Path.{_≡_, refl}
 use Rattle.records.specs.Words.{wordAt}
 use Rattle.records.specs.Examples.{counting}
+use Rattle.calls.specs.Questions.{query}
 use Rattle.query.specs.Program.{queryWords, queryIn}
 
 twelve : queryWords ≡ 12
 twelve = refl
 
 in-place : queryIn (counting 12 0)
-    ≡ record { port = 1; limit = 2; budget = 3; asked = record { care = 4 ∷ 5 ∷ 6 ∷ 7 ∷ []; value = 8 ∷ 9 ∷ 10 ∷ 11 ∷ [] } }
+    ≡ query 1 2 3 (record { care = 4 ∷ 5 ∷ 6 ∷ 7 ∷ []; value = 8 ∷ 9 ∷ 10 ∷ 11 ∷ [] })
 unfolding wordAt
 in-place = refl

@@ -1,5 +1,5 @@
--- Where questions 1 and 7 change their answer, computed: a length of 40,200 bytes, and the last record within each of the four limits.
--- Assumes nothing.
+-- Where questions 1 and 7 (Q1, Q7) change their answer, computed: a length of 40,200 bytes, and the last record within each of the four
+-- limits. Assumes nothing.
 use mathlib.Core.Bool.{Bool, true, false}
 use mathlib.Core.List.{[], _∷_, _++_}
 use mathlib.Core.Path.{_≡_, refl}
@@ -8,7 +8,7 @@ use lib.ListN.{replicate}
 use Rattle.records.specs.Words.{wordAt}
 use Rattle.questions.specs.Questions.{sized, withinLimits}
 
--- ---- 1. "Is the file's length a multiple of 4 from 8 to 40,200?"
+-- ---- Q1, the length
 
 lengths : (sized (replicate 4 0) ∷ sized (replicate 8 0) ∷ sized (replicate 10 0) ∷ []) ≡ false ∷ true ∷ false ∷ []
 unfolding sized
@@ -18,7 +18,7 @@ longest : (sized (replicate 40200 0) ∷ sized (replicate 40204 0) ∷ []) ≡ t
 unfolding sized
 longest = refl
 
--- ---- 7. "Is the record within the four limits?"
+-- ---- Q7, the limits
 
 -- a record whose first word has this highest byte and port 5, after so many edges, links and entries at port 5 and entries at port 6
 abbrev after : ℕ → ℕ → ℕ → ℕ → ℕ → Bool

@@ -1,18 +1,19 @@
--- The fields and the places of records on words of which no two digits agree, each computed: what else holds the definitions of Words.antt
--- and Records.antt to the layout. Assumes nothing.
+-- The fields and the places of records (F1 to F8) on words of which no two digits agree, each computed: what holds the definitions of
+-- Words.antt and Records.antt to the layout. Assumes nothing.
 use mathlib.Core.List.{List, [], _∷_, _++_}
 use mathlib.Core.Path.{_≡_, refl}
 use Prim.Native.Nat.{ℕ, zero, suc}
 use Rattle.records.specs.Words.{wordAt, bytesFrom, kindOf, portOf, fromOf, rankOf}
-use Rattle.records.specs.Records.{edgeWords, edgeGroup, edgePort, edgeAdmitted, edgeBytes, portOfEdge, fromOfLink, toOfLink, placeOf}
+use Rattle.records.specs.Records.{edgeWords, edgeGroup, edgePort, edgeAdmitted, edgeBytes, portOfEdge}
+use Rattle.records.specs.Records.{fromOfLink, toOfLink, placeOf}
 use Rattle.records.specs.Records.{entryWords, entryPriority, entryIn, entryOut, entryMatch, entryRewrite, entryBytes, inOfEntry}
 
--- the lowest byte first
+-- F1: the lowest byte first
 little-endian : wordAt (0x78 ∷ 0x56 ∷ 0x34 ∷ 0x12 ∷ 0xef ∷ 0xcd ∷ 0xab ∷ 0x90 ∷ []) 1 ≡ 0x90abcdef
 unfolding wordAt
 little-endian = refl
 
--- kind in bits 31..28, group or priority in 27..12, from-port in 23..12, port in 11..0
+-- F2 to F6: kind in bits 31..28, group or priority in 27..12, from-port in 23..12, port in 11..0
 fields : (kindOf 0x7fedcba9 ∷ rankOf 0x7fedcba9 ∷ fromOf 0x7fedcba9 ∷ portOf 0x7fedcba9 ∷ [])
     ≡ 7 ∷ 0xfedc ∷ 0xedc ∷ 0xba9 ∷ []
 fields = refl
@@ -24,7 +25,7 @@ abbrev pub counting : ℕ → ℕ → List ℕ
 counting zero k = []
 counting (suc n) k = k ∷ 0 ∷ 0 ∷ 0 ∷ counting n (suc k)
 
--- an edge with the first word 0x2fedcba9, then words 1 to 8
+-- F4: an edge with the first word 0x2fedcba9, then words 1 to 8
 abbrev anEdge : List ℕ
 anEdge = 0xa9 ∷ 0xcb ∷ 0xed ∷ 0x2f ∷ counting 8 1
 
@@ -36,7 +37,7 @@ edge-set : edgeAdmitted anEdge ≡ record { care = 1 ∷ 2 ∷ 3 ∷ 4 ∷ []; v
 unfolding wordAt
 edge-set = refl
 
--- an entry with the first words 0x4fedcba9 and 0x00000321, then words 2 to 17
+-- F6: an entry with the first words 0x4fedcba9 and 0x00000321, then words 2 to 17
 abbrev anEntry : List ℕ
 anEntry = 0xa9 ∷ 0xcb ∷ 0xed ∷ 0x4f ∷ 0x21 ∷ 0x03 ∷ 0 ∷ 0 ∷ counting 16 2
 
@@ -53,7 +54,7 @@ entry-rewrite : entryRewrite anEntry ≡ record { mask = 10 ∷ 11 ∷ 12 ∷ 13
 unfolding wordAt
 entry-rewrite = refl
 
--- ---- where records stand: a start, two edges, two links and two entries
+-- ---- F8, where records stand: a start, two edges, two links and two entries
 
 abbrev aFile : List ℕ
 aFile =
