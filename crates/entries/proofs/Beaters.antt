@@ -44,7 +44,7 @@ module _ (f : Fabric) (b e : ℕ) where
   -- "an entry beats another with the same in-port"
   pub other-port : (inPortOf f b ≡ inPortOf f e → ⊥) → beats f b e ≡ false
   unfolding beats
-  other-port h = ap (λ (x : Bool). x && outranks (priorityOf f b) b (priorityOf f e) e) (ne-eqb _ _ h)
+  other-port h = ap (λ (x : Bool). x && outranks (priorityOf f b) (priorityOf f e)) (ne-eqb _ _ h)
 
   pub beater-port : beats f b e ≡ true → inPortOf f b ≡ inPortOf f e
   beater-port h = go (ℕ-discrete (inPortOf f b) (inPortOf f e))
@@ -53,17 +53,17 @@ module _ (f : Fabric) (b e : ℕ) where
       go (yes d) = d
       go (no d) = absurd (true≢false (sym h ∙ other-port d))
 
-  pub same-port : inPortOf f b ≡ inPortOf f e → beats f b e ≡ outranks (priorityOf f b) b (priorityOf f e) e
+  pub same-port : inPortOf f b ≡ inPortOf f e → beats f b e ≡ outranks (priorityOf f b) (priorityOf f e)
   unfolding beats
-  same-port same = ap (λ (x : Bool). x && outranks (priorityOf f b) b (priorityOf f e) e) (eq-eqb _ _ same)
+  same-port same = ap (λ (x : Bool). x && outranks (priorityOf f b) (priorityOf f e)) (eq-eqb _ _ same)
 
 -- the same from the entries' own bytes, as the code compares them
 module _ {f : List ℕ} (a : AFabric f) {e b : ℕ} {x y : List ℕ} (i : IsEntry f e x) (k : IsEntry f b y)
     (same : inPortOf (fabricIn f) b ≡ inPortOf (fabricIn f) e) {p q : ℕ} (hq : q ≡ entryPriority x) (hp : p ≡ entryPriority y) where
-  pub reads-beats : {t : Bool} → t ≡ outranks p b q e → beats (fabricIn f) b e ≡ t
+  pub reads-beats : {t : Bool} → t ≡ outranks p q → beats (fabricIn f) b e ≡ t
   reads-beats h =
       same-port (fabricIn f) b e same
-      ∙ ap₂ (λ (m n : ℕ). outranks m b n e) (priority-is a k ∙ sym hp) (priority-is a i ∙ sym hq)
+      ∙ ap₂ outranks (priority-is a k ∙ sym hp) (priority-is a i ∙ sym hq)
       ∙ sym h
 
 -- ---- the chain of an entry's in-port

@@ -8,7 +8,6 @@ ghost use Prim.Native.Nat.{suc, _*_, _<_};
 ghost use lib.ListN.{length};
 ghost use Rattle.headers.specs.Forms.{setOf, maybeOf};
 ghost use Rattle.records.specs.Records.{entryWords};
-ghost use Rattle.forwarding.specs.Fabric.{outranks};
 ghost use Rattle.model.specs.Model.{fabricIn};
 ghost use Rattle.index.specs.Index.{Index};
 ghost use Rattle.entries.specs.Entries.{EntriesFrom, IsEntry, SameInPort, backFrom, IsBeater, NextBeater};
@@ -52,13 +51,6 @@ pub fn before(x: &[u8], t: HeaderSet) -> MaybeSet
 
 // ---- beaters
 
-// Does entry b with priority p beat entry e with priority q, at the same in-port?
-fn outranks(p: u32, b: usize, q: u32, e: usize) -> bool
-    ensures { λ r. ⌜ r ≡ outranks p b q e ⌝ }
-{
-    (q < p) | (p == q) & (b < e)
-}
-
 // The first beater of entry e, whose bytes are x, from entry j of their in-port's chain on.
 fn next_beater<'a>(
     file: &'a [u8],
@@ -78,7 +70,7 @@ fn next_beater<'a>(
     let mut b = j;
     while b < NO_ENTRY {
         let p = records::priority(entry_at(file, base, b));
-        if outranks(p, b, q, e) {
+        if model::outranks(p, q) {
             return b;
         }
         b = index::next_in(index, b);

@@ -15,7 +15,7 @@ use Rattle.records.specs.Words.{wordAt, bytesFrom}
 use Rattle.questions.specs.Questions.{pick, accepted, records, passed, asked, sized, started}
 use Rattle.questions.specs.Questions.{inOrder, portsRight, setsTidy, linkFree, withinLimits}
 use Rattle.forwarding.specs.Fabric.{holds, beats, applied, undoes}
-use Rattle.forwarding.specs.Run.{unbeaten, takes, taker, hop, run, fateOf, portOf, headerOf, takenBy}
+use Rattle.forwarding.specs.Run.{unbeaten, takes, takers, hop, run, fateOf, portOf, headerOf, takenBy}
 use Rattle.forwarding.specs.BackTrace.{back, beaters}
 use Rattle.forwarding.specs.Trace.{carved, atInPort, takenUp, stop, units, finds}
 use Rattle.forwarding.specs.Verdict.{foreignPacket, verdict, unitsIn}
@@ -50,7 +50,7 @@ unfolding findWords listWords sixteen reachedWords verdictWords
 computingWords = tt
 
 unfoldable pub computingHops : Unit {0}
-unfolding computingFabric positions those holds beats applied unbeaten takes taker hop run
+unfolding computingFabric positions those holds beats applied unbeaten takes takers hop run
 computingHops = tt
 
 unfoldable pub computingRun : Unit {0}

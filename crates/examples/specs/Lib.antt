@@ -1,2 +1,3 @@
 pub mod Examples
 pub mod Richer
+pub mod Equals

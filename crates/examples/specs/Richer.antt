@@ -1,6 +1,6 @@
 -- A second table of examples, X15 to X19, on one richer file: links, ways of one, two and three hops, two beaters, two entries at a stop,
--- a group and a priority of more than 12 bits, a rewrite, equal priorities, an admitted set that is narrower than a find, the four fates of
--- a run, and the order of the questions. Proved in proofs/Richer.antt. Assumes nothing.
+-- a group and a priority of more than 12 bits, a rewrite, an admitted set that is narrower than a find, the four fates of a run that is not
+-- tied, and the order of the questions. Proved in proofs/Richer.antt.
 use mathlib.Core.List.{List, [], _∷_, _++_}
 use mathlib.Core.Path.{_≡_}
 use Prim.Native.Nat.{ℕ, _<_}
@@ -28,15 +28,15 @@ wordsOfG =
     ++ (0x22abc00c ∷ eight)
     -- links 20 -> 21 and 30 -> 31
     ++ (0x30014015 ∷ 0x3001e01f ∷ [])
-    -- at port 31 three entries: 0 drops by its higher priority, 1 by standing before its equal, and 2 sends to edge port 5
+    -- at port 31 three entries: 0 and 1 drop by their higher priorities, and 2 sends to edge port 5
     ++ (0x4200301f ∷ 0 ∷ (header 0 0 3 0 ++ header 0 0 1 0 ++ eight))
-    ++ (0x4100401f ∷ 0 ∷ (header 0 0 6 0 ++ header 0 0 2 0 ++ eight))
+    ++ (0x4100501f ∷ 0 ∷ (header 0 0 6 0 ++ header 0 0 2 0 ++ eight))
     ++ (0x4100401f ∷ 5 ∷ (eight ++ eight))
     -- entry 3 sends from edge port 9 straight to 5
-    ++ (0x40007009 ∷ 5 ∷ (header 0 0 0 0x10 ++ header 0 0 0 0x10 ++ eight))
+    ++ (0x40008009 ∷ 5 ∷ (header 0 0 0 0x10 ++ header 0 0 0 0x10 ++ eight))
     -- entry 4 on the second switch writes another nw_dst
     ++ (0x40007015 ∷ 30 ∷ (header 0 0xffffffff 0 0 ++ header 0 0x0a000002 0 0 ++ header 0 0xffffffff 0 0 ++ header 0 0x0a000009 0 0))
-    -- entries 5 and 6 send from edge ports 12 and 9 to the second switch; 6 has the priority of 3
+    -- entries 5 and 6 send from edge ports 12 and 9 to the second switch; 3 beats 6
     ++ (0x4000700c ∷ 20 ∷ (header 0 0 0 0xff ++ header 0 0 0 6 ++ eight))
     ++ (0x40007009 ∷ 20 ∷ (eight ++ eight))
     ++ (0x50000000 ∷ [])
@@ -120,7 +120,7 @@ pub record Lists : Type 0 where
 
 -- X18, and X19 for the run
 pub record Runs : Type 0 where
-  -- the four fates: left at 5; dropped by entry 1, which stands before its equal 2; lost at 21; still travelling to 31
+  -- left at 5; dropped by entry 1, which beats 2; lost at 21; still travelling to 31
   pub left : Always 96 (runCall G (packet 12 3 (header 7 0x0a000002 6 6)))
       (answered (0 ∷ 0 ∷ 5 ∷ 3 ∷ (header 7 0x0a000009 6 6 ++ way (5 ∷ 4 ∷ 2 ∷ []) 13)))
   pub dropped : Always 96 (runCall G (packet 12 3 (header 7 0x0a000002 2 6)))
@@ -129,8 +129,8 @@ pub record Runs : Type 0 where
       (answered (2 ∷ 0 ∷ 21 ∷ 1 ∷ (header 7 1 6 6 ++ way (5 ∷ []) 15)))
   pub travelling : Always 96 (runCall G (packet 12 2 (header 7 0x0a000002 6 6)))
       (answered (3 ∷ 0 ∷ 31 ∷ 2 ∷ (header 7 0x0a000009 6 6 ++ way (5 ∷ 4 ∷ []) 14)))
-  -- of two entries of the same priority the earlier one takes the packet
-  pub tie : Always 96 (runCall G (packet 9 3 (header 0 0 0 0x10)))
+  -- of two entries that hold the packet the one of the higher priority takes it
+  pub higher : Always 96 (runCall G (packet 9 3 (header 0 0 0 0x10)))
       (answered (0 ∷ 0 ∷ 5 ∷ 1 ∷ (header 0 0 0 0x10 ++ way (3 ∷ []) 15)))
   -- 9 before 10, 10 before 11, 11 before 12
   pub in-turn-9 : Always 0 (runCall G (query 9 0 0 untidy)) (refused 9 0)

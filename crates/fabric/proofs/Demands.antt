@@ -131,7 +131,7 @@ module _ (f : List ℕ) (s : Shape) (ok : Accepted f s) (q : Query) where
             isolated-rest = λ d. VerdictSaid.isolated-rest-said u area low;
             reached-first = λ d. absurd (never d);
             reached-leak = λ d. absurd (never d);
-            reached-hops = λ d. absurd (never d);
+            reached-run = λ d. absurd (never d);
             reached-rest = λ d. absurd (never d);
             isolated-units = λ d. units-are ∙ stops.isolated-units F (q .port) (traceAsked F q) u e;
             within-budget = omega (arith, units-are);
@@ -173,7 +173,8 @@ module _ (f : List ℕ) (s : Shape) (ok : Accepted f s) (q : Query) where
               path-is = r .path ∙ sym entries-are;
             };
             reached-leak = λ d. rw (port-is, entries-are, header-is) leak;
-            reached-hops = λ d. hops-are ∙ sym (rw (port-is, header-is) (leak .arriving .hops));
+            reached-run = λ d. rw (port-is, entries-are, header-is)
+                (arrivals.arrival-run F (q .limit) (q .port) (q .asked) p path h (leak .arriving));
             reached-rest = λ d k m.
                 VerdictSaid.reached-rest-said u p path h area low port short entries (way .fits) k (omega (arith, hops-are));
             isolated-units = λ d. absurd (never d);
@@ -215,7 +216,8 @@ module _ (f : List ℕ) (s : Shape) (ok : Accepted f s) (q : Query) where
                 ap₂ (λ (k m : ℕ). findsRead k (wordsFrom m (bytesOf ws ++ drop (4 * length ws) area) 0)) n n
                 ∙ ap (findsRead (length ws)) (words-back ws (drop (4 * length ws) area) (fit-finds (finds (traceAsked F q)) sayable))
                 ∙ finds-back (finds (traceAsked F q)) sayable (length ws) (omega arith);
-            listed-once = arrivals.finds-exact F sound (q .limit) (q .port) (q .asked) edge wa;
+            listed-once = arrivals.arrival-found F sound (q .limit) (q .port) (q .asked) edge wa;
+            listed-else-none = arrivals.else-none F sound (q .limit) (q .port) (q .asked) edge wa;
             listed-edge = λ d m. edge-set F sound (q .limit) (q .port) (q .asked) wa d m .edge;
             listed-set = λ d m. edge-set F sound (q .limit) (q .port) (q .asked) wa d m .well-formed;
             listed-arrive = arrivals.find-arrives F sound (q .limit) (q .port) (q .asked) edge wa;

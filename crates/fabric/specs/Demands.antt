@@ -18,9 +18,10 @@ use Rattle.questions.specs.Questions.{accepted, firstNo}
 use Rattle.questions.specs.declared.Read.the-variants.{No}
 use Rattle.file.specs.Accepted.{Accepted}
 use Rattle.forwarding.specs.Fabric.{Fabric, inPortOf, applied}
-use Rattle.forwarding.specs.Run.{takes, run, entriesTaken, hopsMade, arrives, Arrives}
+use Rattle.forwarding.specs.Run.{takes, run, fateOf, entriesTaken}
+use Rattle.forwarding.specs.Choices.{Arrives}
 use Rattle.forwarding.specs.BackTrace.{backTraced}
-use Rattle.forwarding.specs.Trace.{Find, Event, find, units, finds, pathsFor}
+use Rattle.forwarding.specs.Trace.{Find, Event, find, units, finds, findsBy}
 use Rattle.forwarding.specs.Verdict.{foreignPacket, Leak, NoLeak}
 use Rattle.model.specs.Model.{fabricIn}
 use Rattle.calls.specs.Questions.{Query, answerWords}
@@ -100,14 +101,15 @@ pub record VerdictSays (f : Fabric) (q : Query) (o : Outcome) : Type 0 where
   -- A9: it fills 24 words, and word 0 is 0 or 1
   pub fills : wordsWritten o ≡ answerWords
   pub one-or-other : (said o 0 ≡ 0 → ⊥) → said o 0 ≡ 1
-  -- D3a: isolated exactly if no foreign packet arrives; A10: then 0 from word 2 on
+  -- D3a: isolated exactly if no foreign packet arrives under any choice; A10: then 0 from word 2 on
   pub isolated-exactly : said o 0 ≡ 0 ↔ NoLeak f (q .limit) (q .port) (q .asked)
   pub isolated-rest : said o 0 ≡ 0 → (k : ℕ) → 2 ≤ k → k < answerWords → said o k ≡ 0
   -- D3b: else the packet is that of the first find with a foreign packet ..
   pub reached-first : said o 0 ≡ 1 → FirstForeign f q (unitsSaid o) (portSaid o) (entriesSaid o) (headerSaid o)
-  -- .. it is foreign and arrives, by as many hops and by the entries said; A12: unused words are 0
+  -- .. it is foreign and arrives, under the choice of the entries said, which took it too if its run is not tied; A12: unused words are 0
   pub reached-leak : said o 0 ≡ 1 → Leak f (q .limit) (q .port) (q .asked) (portSaid o) (entriesSaid o) (headerSaid o)
-  pub reached-hops : said o 0 ≡ 1 → hopsSaid o ≡ hopsMade (run f (q .limit) (portSaid o) (headerSaid o))
+  pub reached-run : said o 0 ≡ 1 → ¬ (fateOf (run f (q .limit) (portSaid o) (headerSaid o)) ≡ 4)
+      → entriesTaken (run f (q .limit) (portSaid o) (headerSaid o)) ≡ entriesSaid o
   pub reached-rest : said o 0 ≡ 1 → (k : ℕ) → 4 + headerWords + hopsSaid o ≤ k → k < answerWords → said o k ≡ 0
   -- D3d: isolated has the units of the whole back-trace, reached those before its find (reached-first), and the budget had them
   pub isolated-units : said o 0 ≡ 0 → unitsSaid o ≡ units (traceAsked f q)
@@ -157,12 +159,13 @@ findsSaid o = findsRead (wordsWritten o) (wordsFrom (wordsWritten o) (o .area) 0
 pub record ListSays (f : Fabric) (q : Query) (o : Outcome) : Type 0 where
   -- D3c: the words written are the finds of the back-trace, in its order
   pub listed : findsSaid o ≡ some (finds (traceAsked f q))
-  -- D3c: each pair that arrives is in just one find, and no other pair is: of the finds at an edge port that hold a header, the paths are
-  -- the entries of its run, once, if the pair arrives, and else there is none
-  pub listed-once : (p : ℕ) (h : Header) → f .isEdge p ≡ true → Words (f .words) h
-      → pathsFor (f .words) p h (finds (traceAsked f q))
-      ≡ cond (arrives f (q .limit) (q .port) (q .asked) p h) (entriesTaken (run f (q .limit) p h) ∷ []) []
-  -- D3c: a find is a set of headers at an edge port, and each of its packets arrives by its hops and entries
+  -- D3c: each pair is in just one find by the entries of each choice under which it arrives, so in one at least if it arrives ..
+  pub listed-once : (p : ℕ) (path : List ℕ) (h : Header) → f .isEdge p ≡ true → Words (f .words) h
+      → Arrives f (q .limit) (q .port) (q .asked) p path h → findsBy (f .words) p path h (finds (traceAsked f q)) ≡ 1
+  -- .. and in none by any other entries
+  pub listed-else-none : (p : ℕ) (path : List ℕ) (h : Header) → f .isEdge p ≡ true → Words (f .words) h
+      → ¬ Arrives f (q .limit) (q .port) (q .asked) p path h → findsBy (f .words) p path h (finds (traceAsked f q)) ≡ 0
+  -- D3c: a find is a set of headers at an edge port, and each of its packets arrives under the choice of its entries
   pub listed-edge : (d : Find) → List·Memᴰ d (finds (traceAsked f q)) → f .isEdge (d .port) ≡ true
   pub listed-set : (d : Find) → List·Memᴰ d (finds (traceAsked f q)) → WellFormed (f .words) (d .set)
   pub listed-arrive : (d : Find) → List·Memᴰ d (finds (traceAsked f q)) → (h : Header) → Words (f .words) h

@@ -12,11 +12,11 @@ use Rattle.headers.specs.Sets.{Header, Set, contains, WellFormed}
 use Rattle.headers.specs.Carving.{one}
 use Rattle.headers.proofs.Booleans.{and-fst, and-snd}
 use Rattle.forwarding.specs.Fabric.{Fabric, Sound}
-use Rattle.forwarding.specs.Trace.{Find, finds, trace}
-use Rattle.forwarding.proofs.Lists.{member-total, total-member, one-true, same, same-equal}
+use Rattle.forwarding.specs.Trace.{Find, finds, trace, same}
+use Rattle.forwarding.proofs.Lists.{member-total, total-member, one-true, same-equal}
 use Rattle.forwarding.proofs.Ways.{goes, CanGo}
 use Rattle.forwarding.proofs.WaysBack.{onto, waysBack, finds-stop, EdgeSet, find-edge-set}
-use Rattle.forwarding.proofs.WayByWay.{holdsBy, holds-own, finds-by-way}
+use Rattle.forwarding.proofs.WayByWay.{holdsBy, holds-own, finds-by-total, finds-by-way}
 
 -- one of the finds, at port p and by the entries q, holds h
 pub record Found (n : ℕ) (l : List Find) (p : ℕ) (q : List ℕ) (h : Header) : Type 0 where
@@ -40,6 +40,7 @@ module _ (f : Fabric) (sound : Sound f) (limit target : ℕ) (asked : Set) (wa :
   find-sound d m h w e =
       let here : one (holdsBy (f .words) (d .port) (d .path) h d) ≡ 1 = ap one (holds-own (f .words) h d e) in
       let some = member-total (λ c. one (holdsBy (f .words) (d .port) (d .path) h c)) (finds (trace f limit target asked)) m in
+      let sum = finds-by-total (f .words) (d .port) (d .path) h (finds (trace f limit target asked)) in
       let is = finds-by-way f sound (d .port) h (edge-set d m .edge) w limit target asked wa (d .path) in
       let c = one-true (leb (length (d .path)) limit && goes f (d .port) h (reverse (d .path)) target asked) (omega arith) in
       record { short = leb-true _ _ (and-fst _ _ c); goes-there = and-snd (leb (length (d .path)) limit) _ c }
@@ -48,6 +49,7 @@ module _ (f : Fabric) (sound : Sound f) (limit target : ℕ) (asked : Set) (wa :
   pub find-complete : (p : ℕ) (q : List ℕ) (h : Header) → f .isEdge p ≡ true → Words (f .words) h → CanGo f limit target asked p q h
       → Found (f .words) (finds (trace f limit target asked)) p q h
   find-complete p q h edge w c =
+      let sum = finds-by-total (f .words) p q h (finds (trace f limit target asked)) in
       let is = finds-by-way f sound p h edge w limit target asked wa q in
       let yes : one (leb (length q) limit && goes f p h (reverse q) target asked) ≡ 1 = ap one (ap₂ _&&_ (le-leb _ _ (c .short)) (c .goes-there)) in
       let m = total-member (λ d. one (holdsBy (f .words) p q h d)) (finds (trace f limit target asked)) (omega arith) in

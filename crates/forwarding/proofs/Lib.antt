@@ -10,6 +10,7 @@ pub mod WaysBack
 pub mod WayByWay
 pub mod Finds
 pub mod RunWays
+pub mod Choices
 pub mod Arrivals
 pub mod Foreign
 pub mod Stops

@@ -7,7 +7,7 @@ use mathlib.Core.Path.{_≡_, refl, sym, ap, ap₂, _∙_}
 use Prim.Native.Nat.{ℕ, zero, suc, _+_, _*_, _≤_, _<_}
 use native.Mathlib.Nat.{add-mul, mul-zero}
 use native.Mathlib.Omega.{arith}
-use native.Mathlib.Decide.{decLt}
+use native.Mathlib.Decide.{ℕ-discrete, decLt}
 use lib.Dec.{eqb, ltb, leb·suc-zero, leb·suc-suc}
 use borrow.Author.Tests.{eq-eqb, eqb-true, lt-ltb}
 use Rattle.headers.specs.Bits.{every, positions, keepIf, those}
@@ -15,14 +15,10 @@ use Rattle.headers.specs.Sets.{Header, Set, contains}
 use Rattle.headers.specs.Carving.{one, holders}
 use Rattle.headers.proofs.Booleans.{and-fst, and-snd, both-ways}
 use Rattle.headers.proofs.Positions.{every-same}
+use Rattle.headers.proofs.SetBits.{those-none}
+use Rattle.forwarding.specs.Trace.{same}
 
 -- ---- the same list
-
-unfoldable pub same : List ℕ → List ℕ → Bool
-same [] [] = true
-same [] (b ∷ m) = false
-same (a ∷ l) [] = false
-same (a ∷ l) (b ∷ m) = eqb a b && same l m
 
 pub same-refl : (l : List ℕ) → same l l ≡ true
 unfolding same
@@ -211,3 +207,39 @@ none-of-those s t (suc k) j =
     go : (b : Bool) → noneOf t (keepIf b j (those s (positions k (suc j)))) ≡ (not (b && t j) && noneOf t (those s (positions k (suc j))))
     go true = refl
     go false = refl
+
+-- ---- members
+
+pub positions-member : (k j e : ℕ) → j ≤ e → e < j + k → List·Memᴰ e (positions k j)
+unfolding positions
+positions-member zero j e l m = absurd (omega arith)
+positions-member (suc k) j e l m = go (ℕ-discrete e j) (positions-member k (suc j) e)
+  where
+    go : Dec (e ≡ j) → (suc j ≤ e → e < suc j + k → List·Memᴰ e (positions k (suc j))) → List·Memᴰ e (j ∷ positions k (suc j))
+    go (yes d) ih = List·Memᴰ·head d
+    go (no d) ih = List·Memᴰ·tail (ih (omega arith) (omega arith))
+
+pub those-member : (t : ℕ → Bool) {a : ℕ} (l : List ℕ) → t a ≡ true → List·Memᴰ a l → List·Memᴰ a (those t l)
+unfolding those
+those-member t [] e m = m
+those-member t {a} (b ∷ l) e m = go (List·Memᴰ·cases-cons m) (t b) refl (those-member t l e)
+  where
+    go : (a ≡ b) ⊎ List·Memᴰ a l → (c : Bool) → t b ≡ c → (List·Memᴰ a l → List·Memᴰ a (those t l)) → List·Memᴰ a (keepIf c b (those t l))
+    go (inl d) true q ih = List·Memᴰ·head d
+    go (inl d) false q ih = absurd (false≢true (sym q ∙ ap t (sym d) ∙ e))
+    go (inr m) true q ih = List·Memᴰ·tail (ih m)
+    go (inr m) false q ih = ih m
+
+-- the one that passes a test
+pub those-one : (t : ℕ → Bool) (k s b : ℕ) → s ≤ b → b < s + k → t b ≡ true → ((i : ℕ) → s ≤ i → i < s + k → ¬ (i ≡ b) → t i ≡ false)
+    → those t (positions k s) ≡ b ∷ []
+unfolding those positions
+those-one t zero s b l m e d = absurd (omega arith)
+those-one t (suc k) s b l m e d = go (ℕ-discrete s b) (those-one t k (suc s) b)
+  where
+    go : Dec (s ≡ b)
+        → (suc s ≤ b → b < suc s + k → t b ≡ true → ((i : ℕ) → suc s ≤ i → i < suc s + k → ¬ (i ≡ b) → t i ≡ false)
+        → those t (positions k (suc s)) ≡ b ∷ [])
+        → keepIf (t s) s (those t (positions k (suc s))) ≡ b ∷ []
+    go (yes q) ih = rw (q, e, those-none t k (suc b) (λ i n p. d i (omega arith) (omega arith) (λ z. omega arith)))
+    go (no q) ih = rw (d s (omega arith) (omega arith) q) (ih (omega arith) (omega arith) e (λ i n p z. d i (omega arith) (omega arith) z))

@@ -13,7 +13,7 @@ use Rattle.headers.specs.Sets.{Header, WellFormed, Written, allWild}
 use Rattle.headers.proofs.Members.{all-wild-well-formed, all-wild-contains}
 use Rattle.headers.proofs.Positions.{every-at}
 use Rattle.forwarding.specs.Fabric.{Sound}
-use Rattle.forwarding.specs.Run.{arrives}
+use Rattle.forwarding.specs.Choices.{Arrives}
 use Rattle.forwarding.specs.Trace.{finds}
 use Rattle.forwarding.specs.Examples.{twoHops, two-hops-back}
 use Rattle.forwarding.proofs.Arrivals.{find-arrives}
@@ -57,8 +57,8 @@ sound = record {
     rewrite (suc (suc e)) = record { mask = words-by _ refl refl; value = words-by _ refl refl }
 
 -- with any header a packet from edge port 1 leaves at edge port 2
-every-header-arrives : (h : Header) → Words 4 h → arrives twoHops 2 2 (allWild 4) 1 h ≡ true
+every-header-arrives : (h : Header) → Words 4 h → Arrives twoHops 2 2 (allWild 4) 1 (0 ∷ 1 ∷ []) h
 unfolding finds
 every-header-arrives h w =
     find-arrives twoHops sound 2 2 (allWild 4) refl (all-wild-well-formed 4) (record { port = 1; path = 0 ∷ 1 ∷ []; set = allWild 4 })
-    (rw two-hops-back (List·Memᴰ·head refl)) h w (all-wild-contains 4 h) .arrives-there
+    (rw two-hops-back (List·Memᴰ·head refl)) h w (all-wild-contains 4 h)

@@ -8,7 +8,6 @@ use Prim.Native.Nat.{ℕ}
 use Rattle.headers.specs.Bits.{Words}
 use Rattle.headers.specs.Sets.{Header, Set, WellFormed}
 use Rattle.forwarding.specs.Fabric.{Fabric, Sound}
-use Rattle.forwarding.specs.Run.{run, entriesTaken}
 use Rattle.forwarding.specs.Trace.{find, trace, finds}
 use Rattle.forwarding.specs.Verdict.{Verdict, isolated, reached, isIsolated, foreign, verdictOn, Leak, NoLeak}
 use Rattle.forwarding.proofs.Stops.{isolated-events, reached-events}
@@ -16,8 +15,7 @@ use Rattle.forwarding.proofs.WaysBack.{finds-append}
 use Rattle.forwarding.proofs.Foreign.{foreign-some, foreign-none}
 use Rattle.forwarding.proofs.Finds.{edge-set, find-sound, find-complete}
 use Rattle.forwarding.proofs.Ways.{CanGo}
-use Rattle.forwarding.proofs.RunWays.{arrives-way}
-use Rattle.forwarding.proofs.Arrivals.{can-arrive}
+use Rattle.forwarding.proofs.RunWays.{arrives-way, way-arrives}
 
 -- ---- way by way: nothing here asks that one entry alone takes a header
 
@@ -55,7 +53,7 @@ module _ (f : Fabric) (sound : Sound f) (limit target : ℕ) (asked : Set) (wa :
       let n = isolated-events f target (trace f limit target asked) 0 u e .none-foreign (d .in-find) (d .member) in
       rw (d .port) (foreign-none f sound target (d .in-find) (s .well-formed) n h (d .holds-it))
 
--- ---- by the run
+-- ---- by what a packet can become
 
 module _ (f : Fabric) (sound : Sound f) (limit target : ℕ) (asked : Set) (edge : f .isEdge target ≡ true) (wa : WellFormed (f .words) asked) where
   -- the packet that 'reached' names is foreign and arrives, by the entries named
@@ -66,21 +64,21 @@ module _ (f : Fabric) (sound : Sound f) (limit target : ℕ) (asked : Set) (edge
         edge-port = g .edge-port;
         fits = g .fits;
         is-foreign = g .is-foreign;
-        arriving = can-arrive f sound limit target asked edge wa p q h (g .can-go);
+        arriving = way-arrives f sound p h limit target asked q edge (g .can-go);
       }
 
-  -- 'isolated' exactly if no foreign packet arrives
+  -- 'isolated' exactly if no foreign packet arrives, under any choice
   pub isolated-exactly : isIsolated (verdictOn f target limit asked) ≡ true ↔ NoLeak f limit target asked
   unfolding isIsolated
   isolated-exactly = (safe (verdictOn f target limit asked) refl, clear (verdictOn f target limit asked) refl)
     where
       safe : (v : Verdict) → verdictOn f target limit asked ≡ v → isIsolated v ≡ true → NoLeak f limit target asked
-      safe (isolated u) e i = λ p h pe w a.
-          isolated-ways f sound limit target asked wa u e p (entriesTaken (run f limit p h)) h pe w (arrives-way f sound p h limit target asked a)
+      safe (isolated u) e i = λ p q h pe w a.
+          isolated-ways f sound limit target asked wa u e p q h pe w (arrives-way f sound p h limit target asked q a)
       safe (reached u p q h) e i = absurd (false≢true i)
 
       clear : (v : Verdict) → verdictOn f target limit asked ≡ v → NoLeak f limit target asked → isIsolated v ≡ true
       clear (isolated u) e safe = refl
       clear (reached u p q h) e safe =
           let l = reached-leak u p q h e in
-          absurd (true≢false (sym (l .is-foreign) ∙ safe p h (l .edge-port) (l .fits) (l .arriving .arrives-there)))
+          absurd (true≢false (sym (l .is-foreign) ∙ safe p q h (l .edge-port) (l .fits) (l .arriving)))

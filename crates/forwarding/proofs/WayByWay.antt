@@ -3,7 +3,7 @@
 use mathlib.Core.Bool.{Bool, true, false, not, _&&_, cond, true≢false, and-false}
 use mathlib.Core.List.{List, [], _∷_, map, reverse, List·Memᴰ}
 use mathlib.Core.Path.{_≡_, refl, sym, ap, ap₂, _∙_}
-use Prim.Native.Nat.{ℕ, zero, suc, _*_}
+use Prim.Native.Nat.{ℕ, zero, suc, _+_, _*_}
 use native.Mathlib.Nat.{mul-zero, mul-one}
 use native.Mathlib.Omega.{arith}
 use borrow.Author.Tests.{eq-eqb, ne-eqb}
@@ -16,10 +16,12 @@ use Rattle.headers.proofs.Booleans.{_==_, same-true, always}
 use Rattle.forwarding.specs.Fabric.{Fabric, Sound, inPortOf, outPortOf, entriesWhere, holds, applied}
 use Rattle.forwarding.specs.Run.{unbeaten, takes}
 use Rattle.forwarding.specs.BackTrace.{backTraced}
-use Rattle.forwarding.specs.Trace.{Find, finds, trace}
-use Rattle.forwarding.proofs.Lists.{total, total-times, total-zero, total-flatMap, total-map, total-only, one-and, holders-total, same, same-refl, same-reverse}
+use Rattle.forwarding.specs.Trace.{Find, finds, trace, same, findsBy}
+use Rattle.forwarding.proofs.Lists.{total, total-times, total-zero, total-flatMap, total-map, total-only, one-and, holders-total}
+use Rattle.forwarding.proofs.Lists.{same-refl, same-reverse}
 use Rattle.forwarding.proofs.BackTraced.{back-traced-holders, back-traced-well-formed}
-use Rattle.forwarding.proofs.Ways.{Place, nowhere, at, departs, stands, sent, isAt, goes, FitsAt, departs-at, stands-fits, across-link}
+use Rattle.forwarding.proofs.Ways.{Place, nowhere, at, departs, stands, sent, isAt, goes, FitsAt, departs-at, stands-fits}
+use Rattle.forwarding.proofs.Ways.{across-link}
 use Rattle.forwarding.proofs.WaysBack.{later, overLink, foundAt, foundBefore, waysBack, onto, finds-stop}
 
 -- a find at port p by the entries q that holds h
@@ -30,14 +32,16 @@ holdsBy n p q h d = eqb p (d .port) && (same (d .path) q && contains n (d .set) 
 pub holds-own : (n : ℕ) (h : Header) (d : Find) → contains n (d .set) h ≡ true → holdsBy n (d .port) (d .path) h d ≡ true
 holds-own n h d e = ap₂ _&&_ (eq-eqb (d .port) (d .port) refl) (ap₂ _&&_ (same-refl (d .path)) e)
 
--- how many finds do
-abbrev pub findsBy : ℕ → ℕ → List ℕ → Header → List Find → ℕ
-findsBy n p q h l = total (λ d. one (holdsBy n p q h d)) l
+-- how many finds do, as a sum
+pub finds-by-total : (n p : ℕ) (q : List ℕ) (h : Header) (l : List Find) → findsBy n p q h l ≡ total (λ d. one (holdsBy n p q h d)) l
+unfolding findsBy total
+finds-by-total n p q h [] = refl
+finds-by-total n p q h (d ∷ l) = ap (λ (m : ℕ). one (holdsBy n p q h d) + m) (finds-by-total n p q h l)
 
 module _ (f : Fabric) (sound : Sound f) (p : ℕ) (h : Header) (edge : f .isEdge p ≡ true) (w : Words (f .words) h) where
   -- how many finds at port p by the entries r hold h
   abbrev found : List ℕ → List Find → ℕ
-  found r l = findsBy (f .words) p r h l
+  found r l = total (λ d. one (holdsBy (f .words) p r h d)) l
 
   -- the finds of the stop with k hops left, latest entries first
   Exactly : ℕ → Type 0
@@ -164,7 +168,8 @@ module _ (f : Fabric) (sound : Sound f) (p : ℕ) (h : Header) (edge : f .isEdge
       → findsBy (f .words) p q h (finds (trace f limit target asked)) ≡ one (leb (length q) limit && goes f p h (reverse q) target asked)
   unfolding Exactly
   finds-by-way limit target asked wa q =
-      ap (found q) (finds-stop f limit target asked [])
+      finds-by-total (f .words) p q h (finds (trace f limit target asked))
+      ∙ ap (found q) (finds-stop f limit target asked [])
       ∙ total-map _ (onto []) (waysBack f limit target asked)
       ∙ (λ i. total (λ d. one (eqb p (d .port) && (same-reverse (d .path) q i && contains (f .words) (d .set) h))) (waysBack f limit target asked))
       ∙ exact limit (reverse q) target asked wa

@@ -10,7 +10,8 @@ use Rattle.headers.specs.Bits.{bit, bitAt, positions, those, setBits, single}
 use Rattle.headers.specs.Sets.{Header, Set, Rewrite, allWild, noRewrite, intersection, undone}
 use Rattle.headers.specs.Carving.{partsAt, parts, carve, holders}
 use Rattle.forwarding.specs.Fabric.{Entry, Fabric, holds, beats, applied, undoes}
-use Rattle.forwarding.specs.Run.{Packet, left, dropped, travelling, unbeaten, takes, taker, hop, run, fateOf, portOf, headerOf, takenBy, hopsMade}
+use Rattle.forwarding.specs.Run.{Packet, left, dropped, travelling, tied, unbeaten, takes, takers, hop, run}
+use Rattle.forwarding.specs.Run.{fateOf, portOf, headerOf, takenBy, hopsMade}
 use Rattle.forwarding.specs.BackTrace.{back, beaters, survivors, backTraced}
 use Rattle.forwarding.specs.Trace.{unit, find, carved, atInPort, takenUp, stop, trace}
 use Rattle.forwarding.specs.Verdict.{isolated, reached, foreignPacket, verdict, verdictOn, endsWithin, verdictWithin}
@@ -60,7 +61,7 @@ unfolding bit bitAt positions those setBits single partsAt parts carve holders i
 computingSets = tt
 
 computingRun : Unit {0}
-unfolding computingSets holds beats applied unbeaten takes taker hop run fateOf portOf headerOf takenBy
+unfolding computingSets holds beats applied unbeaten takes takers hop run fateOf portOf headerOf takenBy
 computingRun = tt
 
 computingBack : Unit {0}
@@ -113,14 +114,6 @@ E5 : verdictWithin F 1 0 0 (trace F 1 1 (allWild 4)) ≡ some (isolated 0)
 unfolding computing
 E5 = refl
 
--- ---- equal priorities
-
--- of two entries with the same match and priority the earlier one takes the packet
-tie : run (fabric (entryOf 10 1 2 (allWild 4) (noRewrite 4) ∷ entryOf 10 1 0 (allWild 4) (noRewrite 4) ∷ [])) 1 1 (header 0 0 0 0)
-    ≡ left 2 (header 0 0 0 0) (0 ∷ [])
-unfolding computing
-tie = refl
-
 -- ---- two hops over a link
 
 -- entry 0 writes tp_dst 5 and sends from edge port 1 to port 3, from which a link leads to port 4, where entry 1 takes tp_dst 5 to
@@ -143,6 +136,82 @@ two-hops = refl
 one-hop : run twoHops 1 1 (header 0 0 22 0) ≡ travelling 4 (header 0 0 5 0) (0 ∷ [])
 unfolding computing
 one-hop = refl
+
+-- ---- equal priorities
+
+-- two entries of one priority: entry 0 sends what it may take to edge port 2, entry 1 drops tp_dst 22
+abbrev tie : Fabric
+tie = fabric (entryOf 10 1 2 (allWild 4) (noRewrite 4) ∷ entryOf 10 1 0 (tpDst 22) (noRewrite 4) ∷ [])
+
+-- W16: where both may take the packet, the run stops before the hop
+tie-run : run tie 1 1 (header 0 0 22 0) ≡ tied 1 (header 0 0 22 0) []
+unfolding computing
+tie-run = refl
+
+-- where one alone may, the run goes on
+untied-run : run tie 1 1 (header 0 0 80 0) ≡ left 2 (header 0 0 80 0) (0 ∷ [])
+unfolding computing
+untied-run = refl
+
+-- W1: neither beats the other, so no trial is made, and the find holds tp_dst 22 too
+tie-back : trace tie 1 2 (allWild 4) ≡ unit ∷ find (record { port = 1; path = 0 ∷ []; set = allWild 4 }) ∷ []
+unfolding computing
+tie-back = refl
+
+-- 'reached' under one choice only: the run of the packet that it names is tied
+tie-verdict : verdictOn tie 2 1 (tpDst 22) ≡ reached 1 1 (0 ∷ []) (header 0 0 22 0)
+unfolding computing
+tie-verdict = refl
+
+-- two entries of one priority that both send to edge port 2: one pair, two ways, two finds
+abbrev twoWays : Fabric
+twoWays = fabric (entryOf 10 1 2 (allWild 4) (noRewrite 4) ∷ entryOf 10 1 2 (tpDst 22) (noRewrite 4) ∷ [])
+
+two-ways-back : trace twoWays 1 2 (tpDst 22)
+    ≡ unit
+    ∷ find (record { port = 1; path = 0 ∷ []; set = tpDst 22 })
+    ∷ unit
+    ∷ find (record { port = 1; path = 1 ∷ []; set = tpDst 22 })
+    ∷ []
+unfolding computing
+two-ways-back = refl
+
+-- it is tied though both do the same
+two-ways-run : run twoWays 1 1 (header 0 0 22 0) ≡ tied 1 (header 0 0 22 0) []
+unfolding computing
+two-ways-run = refl
+
+-- W2: equals below a higher entry that holds the packet don't count
+abbrev equalsBelow : Fabric
+equalsBelow = fabric
+    (entryOf 10 1 0 (allWild 4) (noRewrite 4)
+    ∷ entryOf 10 1 0 (allWild 4) (noRewrite 4)
+    ∷ entryOf 20 1 2 (tpDst 22) (noRewrite 4)
+    ∷ [])
+
+below-run : run equalsBelow 1 1 (header 0 0 22 0) ≡ left 2 (header 0 0 22 0) (2 ∷ [])
+unfolding computing
+below-run = refl
+
+beside-run : run equalsBelow 1 1 (header 0 0 80 0) ≡ tied 1 (header 0 0 80 0) []
+unfolding computing
+beside-run = refl
+
+-- W10: two equals behind a link. At the limit the packet is still travelling, whatever stands there; with a hop left the run is tied.
+abbrev tieBehind : Fabric
+tieBehind = linked 3 4
+    (entryOf 10 1 3 (allWild 4) (noRewrite 4)
+    ∷ entryOf 10 4 2 (allWild 4) (noRewrite 4)
+    ∷ entryOf 10 4 0 (allWild 4) (noRewrite 4)
+    ∷ [])
+
+at-the-limit : run tieBehind 1 1 (header 0 0 0 0) ≡ travelling 4 (header 0 0 0 0) (0 ∷ [])
+unfolding computing
+at-the-limit = refl
+
+past-the-limit : run tieBehind 2 1 (header 0 0 0 0) ≡ tied 4 (header 0 0 0 0) (0 ∷ [])
+unfolding computing
+past-the-limit = refl
 
 -- ---- orders
 
@@ -197,30 +266,31 @@ first-part : verdictOn ownGroup 2 1 (allWild 4) ≡ reached 1 1 (0 ∷ []) (head
 unfolding computing
 first-part = refl
 
--- ---- the four fates
+-- ---- the fates
 
--- a packet that leaves, one that entry 0 of F drops, one that no entry of F takes and one that travels on
+-- a packet that leaves, one that entry 0 of F drops, one that no entry of F takes, one that travels on and one that is tied
 abbrev packets : List Packet
 packets =
     run F 1 1 (header 0 0x0a000002 2 0)
     ∷ run F 1 1 (header 0 0 1 0)
     ∷ run F 1 1 (header 0 0 2 0)
     ∷ run twoHops 1 1 (header 0 0 22 0)
+    ∷ run tieBehind 2 1 (header 0 0 22 0)
     ∷ []
 
-fates : map fateOf packets ≡ 0 ∷ 1 ∷ 2 ∷ 3 ∷ []
+fates : map fateOf packets ≡ 0 ∷ 1 ∷ 2 ∷ 3 ∷ 4 ∷ []
 unfolding computing
 fates = refl
 
-ports : map portOf packets ≡ 2 ∷ 1 ∷ 1 ∷ 4 ∷ []
+ports : map portOf packets ≡ 2 ∷ 1 ∷ 1 ∷ 4 ∷ 4 ∷ []
 unfolding computing
 ports = refl
 
-headers : map headerOf packets ≡ header 0 0x0a000002 2 0 ∷ header 0 0 1 0 ∷ header 0 0 2 0 ∷ header 0 0 5 0 ∷ []
+headers : map headerOf packets ≡ header 0 0x0a000002 2 0 ∷ header 0 0 1 0 ∷ header 0 0 2 0 ∷ header 0 0 5 0 ∷ header 0 0 22 0 ∷ []
 unfolding computing
 headers = refl
 
-hops : map hopsMade packets ≡ 1 ∷ 1 ∷ 0 ∷ 1 ∷ []
+hops : map hopsMade packets ≡ 1 ∷ 1 ∷ 0 ∷ 1 ∷ 1 ∷ []
 unfolding computing
 hops = refl
 

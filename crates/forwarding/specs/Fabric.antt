@@ -1,6 +1,6 @@
 -- A fabric as forwarding sees it: document 01, "The fabric file" and the first sentence of "Forwarding".
 -- It is a record of functions, so that nothing here knows how a file lays them out. Assumes nothing.
-use mathlib.Core.Bool.{Bool, true, false, _&&_, _||_}
+use mathlib.Core.Bool.{Bool, true, false, _&&_}
 use mathlib.Core.List.{List}
 use mathlib.Core.Option.{Option}
 use mathlib.Core.Path.{_≡_}
@@ -32,9 +32,9 @@ pub record Fabric : Type 0 where
   pub linkTo : ℕ → ℕ
   pub linkFrom : ℕ → ℕ
 
--- entry b with priority p and entry e with priority q: "its priority is higher, or equal and it stands earlier in the file"
-abbrev pub outranks : ℕ → ℕ → ℕ → ℕ → Bool
-outranks p b q e = ltb q p || eqb p q && ltb b e
+-- W1's rank, since 2.3: an entry of priority p, not one of the same priority that stands earlier, outranks one of priority q
+abbrev pub outranks : ℕ → ℕ → Bool
+outranks p q = ltb q p
 
 module _ (f : Fabric) where
   abbrev pub inPortOf : ℕ → ℕ
@@ -54,9 +54,9 @@ module _ (f : Fabric) where
   unfoldable pub holds : ℕ → Header → Bool
   holds e h = contains (f .words) (f .entry e .matches) h
 
-  -- "an entry beats another with the same in-port if its priority is higher, or equal and it stands earlier in the file"
+  -- W1: both stand at one in-port, and b's priority is strictly higher
   unfoldable pub beats : ℕ → ℕ → Bool
-  beats b e = eqb (inPortOf b) (inPortOf e) && outranks (priorityOf b) b (priorityOf e) e
+  beats b e = eqb (inPortOf b) (inPortOf e) && outranks (priorityOf b) (priorityOf e)
 
   -- what entry e makes of a header that it takes: "It rewrites"
   unfoldable pub applied : ℕ → Header → Header

@@ -1,11 +1,11 @@
 -- The back-trace as a list of events, which knows no budget: document 01, "The back-trace and its count". Assumes nothing.
-use mathlib.Core.Bool.{_&&_, cond}
+use mathlib.Core.Bool.{Bool, true, false, _&&_, cond}
 use mathlib.Core.List.{List, [], _∷_, flatMap}
 use mathlib.Core.Option.{Option·elim}
-use Prim.Native.Nat.{ℕ, zero, suc}
+use Prim.Native.Nat.{ℕ, zero, suc, _+_}
 use lib.Dec.{eqb}
 use Rattle.headers.specs.Sets.{Header, Set, contains}
-use Rattle.headers.specs.Carving.{carve}
+use Rattle.headers.specs.Carving.{carve, one}
 use Rattle.forwarding.specs.Fabric.{Fabric, inPortOf, outPortOf, entriesWhere}
 use Rattle.forwarding.specs.BackTrace.{back, beaters}
 
@@ -64,7 +64,14 @@ finds [] = []
 finds (unit ∷ es) = finds es
 finds (find d ∷ es) = d ∷ finds es
 
--- the paths of the finds at port p that hold h, over n words
-unfoldable pub pathsFor : ℕ → ℕ → Header → List Find → List (List ℕ)
-pathsFor n p h [] = []
-pathsFor n p h (d ∷ l) = cond (eqb p (d .port) && contains n (d .set) h) (d .path ∷ pathsFor n p h l) (pathsFor n p h l)
+-- the same list of entries
+unfoldable pub same : List ℕ → List ℕ → Bool
+same [] [] = true
+same [] (b ∷ m) = false
+same (a ∷ l) [] = false
+same (a ∷ l) (b ∷ m) = eqb a b && same l m
+
+-- how many of the finds are at port p by the entries q and hold h, over n words
+unfoldable pub findsBy : ℕ → ℕ → List ℕ → Header → List Find → ℕ
+findsBy n p q h [] = 0
+findsBy n p q h (d ∷ l) = one (eqb p (d .port) && (same (d .path) q && contains n (d .set) h)) + findsBy n p q h l

@@ -9,7 +9,7 @@ use Rattle.headers.specs.Bits.{Words}
 use Rattle.headers.specs.Sets.{Header, Set, contains, lowest}
 use Rattle.headers.specs.Carving.{carve}
 use Rattle.forwarding.specs.Fabric.{Fabric}
-use Rattle.forwarding.specs.Run.{arrives, Arrives}
+use Rattle.forwarding.specs.Choices.{Arrives}
 use Rattle.forwarding.specs.Trace.{Find, Event, unit, find, trace}
 
 -- "isolated" with the units made; "reached" with the units made, the edge port, the entries in travelling order and the header
@@ -55,17 +55,18 @@ module _ (f : Fabric) (target : ℕ) where
 
 -- ---- what the verdict is about
 
--- a foreign packet that arrives, by the entries q
+-- a foreign packet that arrives, under the choice of the entries q
 pub record Leak (f : Fabric) (limit target : ℕ) (asked : Set) (p : ℕ) (q : List ℕ) (h : Header) : Type 0 where
   pub edge-port : f .isEdge p ≡ true
   pub fits : Words (f .words) h
   pub is-foreign : foreign f target p h ≡ true
   pub arriving : Arrives f limit target asked p q h
 
--- no pair of edge port and header that arrives is foreign
+-- no pair of edge port and header that arrives, under any choice, is foreign
 abbrev pub NoLeak : Fabric → ℕ → ℕ → Set → Type 0
 NoLeak f limit target asked =
-    (p : ℕ) (h : Header) → f .isEdge p ≡ true → Words (f .words) h → arrives f limit target asked p h ≡ true → foreign f target p h ≡ false
+    (p : ℕ) (q : List ℕ) (h : Header) → f .isEdge p ≡ true → Words (f .words) h
+    → Arrives f limit target asked p q h → foreign f target p h ≡ false
 
 -- ---- the budget
 

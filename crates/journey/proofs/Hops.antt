@@ -1,6 +1,5 @@
 -- One hop of a packet, as the code carries it. Assumes nothing.
-use mathlib.Core.List.{List, _∷_, reverse, reverse-cons}
-use mathlib.Core.Option.{Option, some, none}
+use mathlib.Core.List.{List, [], _∷_, reverse, reverse-cons}
 use mathlib.Core.Path.{_≡_, refl, sym, ap, ap₂, _∙_, subst}
 use Prim.Native.Nat.{ℕ, zero, suc, _+_, _*_, _≤_, _<_}
 use native.Mathlib.Numerals.{add-one}
@@ -10,7 +9,9 @@ use Rattle.headers.specs.Sets.{Header}
 use Rattle.answer.specs.Answer.{sixteen}
 use Rattle.answer.proofs.Sixteen.{sixteen-more, sixteen-long}
 use Rattle.forwarding.specs.Fabric.{Fabric, outPortOf, applied}
-use Rattle.forwarding.specs.Run.{Packet, left, dropped, lost, travelling, taker, sentOut, forwarded, hop, run, fateOf, portOf, headerOf, takenBy, entriesTaken, hopsMade}
+use Rattle.forwarding.specs.Run.{Packet, left, dropped, lost, travelling, tied, takers, sentOut, forwarded, hop, run}
+use Rattle.forwarding.specs.Run.{fateOf, portOf, headerOf, takenBy, entriesTaken, hopsMade}
+use Rattle.forwarding.specs.Choices.{Several}
 use Rattle.forwarding.proofs.Runs.{hops-within}
 use Rattle.journey.specs.Journey.{packetWords, journeyOf, journeyWords, Hopped}
 use Rattle.journey.specs.declared.Journey.{Journey}
@@ -33,6 +34,7 @@ travels (travelling x h r) j e three = record {
 travels (left o h r) j e three = absurd (let z : 0 ≡ 3 = ap (λ (k : Journey). k .fate) e ∙ three in omega arith)
 travels (dropped x h r) j e three = absurd (let z : 1 ≡ 3 = ap (λ (k : Journey). k .fate) e ∙ three in omega arith)
 travels (lost x h r) j e three = absurd (let z : 2 ≡ 3 = ap (λ (k : Journey). k .fate) e ∙ three in omega arith)
+travels (tied x h r) j e three = absurd (let z : 4 ≡ 3 = ap (λ (k : Journey). k .fate) e ∙ three in omega arith)
 
 module _ (F : Fabric) (j : Journey) where
   -- a packet at its end stays as it is
@@ -45,29 +47,37 @@ module _ (F : Fabric) (j : Journey) where
       go (left o h r) l e = e
       go (dropped x h r) l e = e
       go (lost x h r) l e = e
+      go (tied x h r) l e = e
 
   module _ (three : j .fate ≡ 3) where
-    -- what becomes of a travelling packet is what `forwarded` makes of its taker
-    by-taker : (o : Option ℕ) (r : Journey) → taker F (j .port) (j .header) ≡ o
+    -- what becomes of a travelling packet is what `forwarded` makes of its takers
+    by-takers : (o : List ℕ) (r : Journey) → takers F (j .port) (j .header) ≡ o
         → ((q : List ℕ) → length q < 16 → length q ≡ j .hops → sixteen (reverse q) ≡ j .entries → journeyOf (forwarded F (j .port) (j .header) q o) ≡ r)
         → Hopped F j r
     unfolding hop takenBy
-    by-taker o r t then = record {
+    by-takers o r t then = record {
       follows = λ p l e.
           let v = travels p j e three in
           ap (λ (k : Packet). journeyOf (hop F k)) (v .is)
-          ∙ ap (λ (x : Option ℕ). journeyOf (forwarded F (j .port) (j .header) (v .taken) x)) t
+          ∙ ap (λ (x : List ℕ). journeyOf (forwarded F (j .port) (j .header) (v .taken) x)) t
           ∙ then (v .taken) (subst (λ (k : Packet). hopsMade k < 16) (v .is) l) (v .hops) (v .entries);
     }
 
     -- "No entry: lost."
-    pub hopped-lost : taker F (j .port) (j .header) ≡ none
+    pub hopped-lost : takers F (j .port) (j .header) ≡ []
         → Hopped F j (record { fate = 2; port = j .port; hops = j .hops; header = j .header; entries = j .entries })
     unfolding journeyOf fateOf portOf headerOf takenBy
-    hopped-lost t = by-taker none _ t λ q l n e. λ i. record { fate = 2; port = j .port; hops = n i; header = j .header; entries = e i }
+    hopped-lost t = by-takers [] _ t λ q l n e. λ i. record { fate = 2; port = j .port; hops = n i; header = j .header; entries = e i }
 
-    -- a taker sends the packet out: where it then is, and its fate there
-    module _ (e : ℕ) (t : taker F (j .port) (j .header) ≡ some e) (h : Header) (is : applied F e (j .header) ≡ h) where
+    -- W16
+    pub hopped-tied : Several (takers F (j .port) (j .header))
+        → Hopped F j (record { fate = 4; port = j .port; hops = j .hops; header = j .header; entries = j .entries })
+    unfolding journeyOf fateOf portOf headerOf takenBy
+    hopped-tied s = by-takers (s .first ∷ s .second ∷ s .rest) _ (s .is) λ q l n e. λ i.
+        record { fate = 4; port = j .port; hops = n i; header = j .header; entries = e i }
+
+    -- the one taker sends the packet out: where it then is, and its fate there
+    module _ (e : ℕ) (t : takers F (j .port) (j .header) ≡ e ∷ []) (h : Header) (is : applied F e (j .header) ≡ h) where
       abbrev pub sent : ℕ → ℕ → Journey
       sent f x = record { fate = f; port = x; hops = j .hops + 1; header = h; entries = set (j .entries) (j .hops) e }
 
@@ -85,7 +95,7 @@ module _ (F : Fabric) (j : Journey) where
       -- "Out-port 0: dropped."
       pub hopped-dropped : outPortOf F e ≡ 0 → Hopped F j (sent 1 (j .port))
       unfolding journeyOf fateOf portOf headerOf takenBy
-      hopped-dropped o = by-taker (some e) _ t λ q l n k.
+      hopped-dropped o = by-takers (e ∷ []) _ t λ q l n k.
           ap (λ (x : ℕ). journeyOf (sentOut F (j .port) x (F .linkTo (outPortOf F e)) (applied F e (j .header)) (e ∷ q))) o
           ∙ λ i. record { fate = 1; port = j .port; hops = more-hops q n i; header = is i; entries = more-entries q l n k i }
 
@@ -93,7 +103,7 @@ module _ (F : Fabric) (j : Journey) where
       pub hopped-left : (x : ℕ) → outPortOf F e ≡ x → (x ≡ 0 → ⊥) → F .linkTo x ≡ 0 → Hopped F j (sent 0 x)
       unfolding journeyOf fateOf portOf headerOf takenBy
       hopped-left zero o d z = absurd (d refl)
-      hopped-left (suc x) o d z = by-taker (some e) _ t λ q l n k.
+      hopped-left (suc x) o d z = by-takers (e ∷ []) _ t λ q l n k.
           ap₂ (λ (x y : ℕ). journeyOf (sentOut F (j .port) x y (applied F e (j .header)) (e ∷ q))) o (ap (F .linkTo) o ∙ z)
           ∙ λ i. record { fate = 0; port = suc x; hops = more-hops q n i; header = is i; entries = more-entries q l n k i }
 
@@ -102,7 +112,7 @@ module _ (F : Fabric) (j : Journey) where
       unfolding journeyOf fateOf portOf headerOf takenBy
       hopped-on zero y o d z u = absurd (d refl)
       hopped-on (suc x) zero o d z u = absurd (u refl)
-      hopped-on (suc x) (suc y) o d z u = by-taker (some e) _ t λ q l n k.
+      hopped-on (suc x) (suc y) o d z u = by-takers (e ∷ []) _ t λ q l n k.
           ap₂ (λ (x y : ℕ). journeyOf (sentOut F (j .port) x y (applied F e (j .header)) (e ∷ q))) o (ap (F .linkTo) o ∙ z)
           ∙ λ i. record { fate = 3; port = suc y; hops = more-hops q n i; header = is i; entries = more-entries q l n k i }
 

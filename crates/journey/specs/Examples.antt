@@ -3,7 +3,7 @@ use mathlib.Core.List.{[], _∷_}
 use mathlib.Core.Path.{_≡_, refl}
 use lib.ListN.{replicate}
 use Rattle.answer.specs.Answer.{sixteen}
-use Rattle.forwarding.specs.Run.{left, dropped, lost, travelling, fateOf, portOf, headerOf, takenBy}
+use Rattle.forwarding.specs.Run.{left, dropped, lost, travelling, tied, fateOf, portOf, headerOf, takenBy}
 use Rattle.journey.specs.Journey.{packetWords}
 
 -- left at port 12 after entries 5, 4 and 2
@@ -28,3 +28,8 @@ travelling-words : packetWords (travelling 12 (1 ∷ 6 ∷ 8 ∷ 9 ∷ []) (4 �
     ≡ 3 ∷ 0 ∷ 12 ∷ 2 ∷ 1 ∷ 6 ∷ 8 ∷ 9 ∷ 5 ∷ 4 ∷ replicate 14 0
 unfolding sixteen fateOf portOf headerOf takenBy packetWords
 travelling-words = refl
+
+-- tied at port 12 after entry 5
+tied-words : packetWords (tied 12 (1 ∷ 6 ∷ 8 ∷ 9 ∷ []) (5 ∷ [])) ≡ 4 ∷ 0 ∷ 12 ∷ 1 ∷ 1 ∷ 6 ∷ 8 ∷ 9 ∷ 5 ∷ replicate 15 0
+unfolding sixteen fateOf portOf headerOf takenBy packetWords
+tied-words = refl

@@ -10,7 +10,7 @@ ghost use Rattle.forwarding.specs.Run.{run};
 ghost use Rattle.model.specs.Model.{fabricIn};
 ghost use Rattle.journey.specs.Journey.{journeyOf, journeyWords, Hopped};
 
-// A packet: its fate (0 left, 1 dropped, 2 lost, 3 travelling), port, header and hops made, and the entries that took it.
+// A packet: its fate (0 left, 1 dropped, 2 lost, 3 travelling, 4 tied), port, header and hops made, and the entries that took it.
 pub struct Journey {
     pub fate: u32,
     pub port: u32,
@@ -53,10 +53,20 @@ fn hop(file: &[u8], shape: Shape, starts: &[u16; 4096], j: Journey) -> Journey
     let header = j.header;
     let n = j.hops;
     let mut entries = j.entries;
-    let e = model::taker(file, shape, port, header);
+    let best = model::taker(file, shape, port, header);
+    let e = best.entry;
     if e == shape.entries {
         return Journey {
             fate: 2,
+            port,
+            hops: n,
+            header,
+            entries,
+        };
+    }
+    if best.tied {
+        return Journey {
+            fate: 4,
             port,
             hops: n,
             header,

@@ -4,16 +4,18 @@ use mathlib.Core.List.{List}
 use mathlib.Core.Path.{_≡_, sym, ap, ap₂, _∙_}
 use Prim.Native.Nat.{ℕ, _≤_, _<_}
 use native.Mathlib.Omega.{arith}
-use borrow.Author.Tests.{eq-eqb, ne-eqb}
+use borrow.Author.Tests.{eq-eqb, ne-eqb, ltb-true, ltb-false}
 use lib.Dec.{eqb}
 use Rattle.headers.specs.Sets.{Header, Set, contains}
 use Rattle.records.specs.Records.{headerWords, entryIn, entryMatch}
 use Rattle.records.specs.declared.Shape.{Shape}
 use Rattle.file.specs.Accepted.{Accepted}
-use Rattle.forwarding.specs.Fabric.{inPortOf, priorityOf, holds}
-use Rattle.forwarding.proofs.Best.{candidate, best-skip, best-keep, best-take}
+use Rattle.forwarding.specs.Fabric.{inPortOf, priorityOf, outranks, holds}
+use Rattle.forwarding.specs.Best.{candidate}
+use Rattle.forwarding.proofs.Best.{best-skip, best-keep, best-tie, best-take}
 use Rattle.model.specs.Model.{fabricIn}
 use Rattle.model.specs.Taking.{Better}
+use Rattle.model.specs.declared.Best.{Best}
 use Rattle.model.proofs.EntryRead.{EntryRead, words-are}
 
 module _ (f : List ℕ) (s : Shape) (ok : Accepted f s) (x : ℕ) (h : Header) (i : ℕ) (e : List ℕ) (read : EntryRead (fabricIn f) i e) where
@@ -30,12 +32,35 @@ module _ (f : List ℕ) (s : Shape) (ok : Accepted f s) (x : ℕ) (h : Header) (
   pub is-match : entryIn e ≡ x → contains headerWords (entryMatch e) h ≡ true → candidate (fabricIn f) x h i ≡ true
   is-match p d = ap₂ _&&_ (eq-eqb x (inPortOf (fabricIn f) i) (sym p ∙ read .in-port)) (holds-is ∙ d)
 
-  module _ (b : ℕ) (within : b ≤ fabricIn f .entries) where
+  module _ (b : Best) (within : b .entry ≤ fabricIn f .entries) where
     pub better-skip : candidate (fabricIn f) x h i ≡ false → Better (fabricIn f) x h i b b
-    better-skip d = record { best-then = λ c. best-skip (fabricIn f) x h i b c d; within = within }
+    better-skip d = record { best-then = λ c. best-skip (fabricIn f) x h i (b .entry) (b .tied) c d; within = within }
 
-    pub better-take : candidate (fabricIn f) x h i ≡ true → (b < fabricIn f .entries → priorityOf (fabricIn f) b < priorityOf (fabricIn f) i) → Better (fabricIn f) x h i b i
-    better-take d p = record { best-then = λ c. best-take (fabricIn f) x h i b c (read .number) d p; within = omega (arith, read .number) }
+    pub better-first : candidate (fabricIn f) x h i ≡ true → ¬ (b .entry < fabricIn f .entries)
+        → Better (fabricIn f) x h i b (record { entry = i; tied = false })
+    better-first d n = record {
+      best-then = λ c. best-take (fabricIn f) x h i (b .entry) (b .tied) c (read .number) d (λ l. absurd (n l));
+      within = omega (arith, read .number);
+    }
 
-    pub better-keep : b < fabricIn f .entries → priorityOf (fabricIn f) i ≤ priorityOf (fabricIn f) b → Better (fabricIn f) x h i b b
-    better-keep l p = record { best-then = λ c. best-keep (fabricIn f) x h i b c l p; within = within }
+    -- p is the best's priority, q entry i's
+    module _ {p q : ℕ} (hp : p ≡ priorityOf (fabricIn f) (b .entry)) (hq : q ≡ priorityOf (fabricIn f) i) where
+      pub better-take : candidate (fabricIn f) x h i ≡ true → outranks q p ≡ true
+          → Better (fabricIn f) x h i b (record { entry = i; tied = false })
+      better-take d o = record {
+        best-then = λ c. best-take (fabricIn f) x h i (b .entry) (b .tied) c (read .number) d (λ l. omega (arith, ltb-true p q o));
+        within = omega (arith, read .number);
+      }
+
+      pub better-keep : b .entry < fabricIn f .entries → outranks p q ≡ true → Better (fabricIn f) x h i b b
+      better-keep l o = record {
+        best-then = λ c. best-keep (fabricIn f) x h i (b .entry) (b .tied) c l (omega (arith, ltb-true q p o));
+        within = within;
+      }
+
+      pub better-tie : b .entry < fabricIn f .entries → candidate (fabricIn f) x h i ≡ true → outranks q p ≡ false → outranks p q ≡ false
+          → Better (fabricIn f) x h i b (record { entry = b .entry; tied = true })
+      better-tie l d o u = record {
+        best-then = λ c. best-tie (fabricIn f) x h i (b .entry) (b .tied) c l d (omega (arith, ltb-false p q o, ltb-false q p u));
+        within = within;
+      }

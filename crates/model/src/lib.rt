@@ -1,15 +1,30 @@
-// The entry of an accepted file that takes a header. What a file's fabric is, is in specs/Model.antt.
+// The entries of an accepted file that may take a header. What a file's fabric is, is in specs/Model.antt.
 use records::Shape;
+ghost use mathlib.Core.Path.{_≡_};
 ghost use Prim.Native.Nat.{_≤_, _<_};
 ghost use Rattle.file.specs.Accepted.{Accepted};
+ghost use Rattle.forwarding.specs.Fabric.{outranks};
 ghost use Rattle.model.specs.Model.{fabricIn};
 ghost use Rattle.model.specs.Taking.{Takes, Better};
 
-// The better of the best so far and entry i, for a header h at in-port x; the number of entries stands for 'none so far'.
-fn better(file: &[u8], shape: Shape, x: u32, h: [u32; 4], i: usize, best: usize) -> usize
+// Does an entry of priority p beat one of priority q at the same in-port? The tie rule stands here alone.
+pub fn outranks(p: u32, q: u32) -> bool
+    ensures { λ r. ⌜ r ≡ outranks p q ⌝ }
+{
+    q < p
+}
+
+// The first of the highest entries that match so far, and whether another of its priority does; the number of entries stands for 'none'.
+pub struct Best {
+    pub entry: usize,
+    pub tied: bool,
+}
+
+// The best so far with entry i, for a header h at in-port x.
+fn better(file: &[u8], shape: Shape, x: u32, h: [u32; 4], i: usize, best: Best) -> Best
     requires { ⌜ Accepted (now file) shape ⌝ }
     requires { ⌜ i < shape .entries ⌝ }
-    requires { ⌜ best ≤ shape .entries ⌝ }
+    requires { ⌜ best .entry ≤ shape .entries ⌝ }
     ensures { λ r. ⌜ Better (fabricIn (now (file .entry))) x h i best r ⌝ }
 {
     let e = file::entry(file, shape, i);
@@ -19,23 +34,40 @@ fn better(file: &[u8], shape: Shape, x: u32, h: [u32; 4], i: usize, best: usize)
     if !records::match_set(e).contains(h) {
         return best;
     }
-    if best == shape.entries {
-        return i;
+    let at = best.entry;
+    if at == shape.entries {
+        return Best {
+            entry: i,
+            tied: false,
+        };
     }
-    let b = file::entry(file, shape, best);
-    if records::priority(b) < records::priority(e) {
-        return i;
+    let p = records::priority(file::entry(file, shape, at));
+    let q = records::priority(e);
+    if outranks(q, p) {
+        return Best {
+            entry: i,
+            tied: false,
+        };
     }
-    best
+    if outranks(p, q) {
+        return best;
+    }
+    Best {
+        entry: at,
+        tied: true,
+    }
 }
 
-// The entry that takes a header h at in-port x; the number of entries where none does.
-pub fn taker(file: &[u8], shape: Shape, x: u32, h: [u32; 4]) -> usize
+// The entries that may take a header h at in-port x.
+pub fn taker(file: &[u8], shape: Shape, x: u32, h: [u32; 4]) -> Best
     requires { ⌜ Accepted (now file) shape ⌝ }
     ensures { λ r. ⌜ Takes (fabricIn (now (file .entry))) x h r ⌝ }
 {
     let n = shape.entries;
-    let mut best = n;
+    let mut best = Best {
+        entry: n,
+        tied: false,
+    };
     let mut i: usize = 0;
     while i < n {
         best = better(file, shape, x, h, i, best);

@@ -1,6 +1,5 @@
 -- `hop` meets its contract: each return is one of the fates of forwarding. Assumes nothing.
-use mathlib.Core.List.{List}
-use mathlib.Core.Option.{some}
+use mathlib.Core.List.{List, [], _∷_}
 use mathlib.Core.Path.{_≡_, sym, ap₂, _∙_}
 use Prim.Native.Nat.{ℕ, _<_}
 use borrow.Author.Needs.{needs}
@@ -9,42 +8,54 @@ use native.Mathlib.Omega.{arith}
 use Rattle.headers.specs.Sets.{Rewrite, rewritten}
 use Rattle.file.proofs.Accepted.{few-entries}
 use Rattle.forwarding.specs.Fabric.{outPortOf, applied}
-use Rattle.forwarding.specs.Run.{taker}
+use Rattle.forwarding.specs.Run.{takers}
 use Rattle.model.specs.Model.{fabricIn}
+use Rattle.model.specs.declared.Best.{Best}
 use Rattle.model.proofs.EntryRead.{EntryRead, entry-read, entries-are, words-are}
-use Rattle.journey.proofs.Hops.{hopped-ended, hopped-lost, hopped-dropped, hopped-left, hopped-on}
+use Rattle.journey.proofs.Hops.{hopped-ended, hopped-lost, hopped-tied, hopped-dropped, hopped-left, hopped-on}
 use Rattle.journey.proofs.hop.Statement.{statement}
 use Rattle.journey.proofs.hop.Tie as tie
 
 -- ---- the moments of the hop
 
--- an entry took the packet
+-- some entries may take the packet
 module _ (c : tie.Else2) where
+  abbrev begun : tie.Start
+  begun = c .before .before .before .before .before .before .before .before
+
+  abbrev best : Best
+  best = c .before .before .taker .result
+
+  one-below : best .entry < fabricIn (now (begun .args .file)) .entries
+  one-below = omega (arith, entries-are (now (begun .args .file)) (begun .args .shape) (begun .pre .0), c .before .before .taker .ensures .within, c .if2 .left)
+
+-- one entry took it
+module _ (c : tie.Else3) where
   abbrev start : tie.Start
-  start = c .before .before .before .before .before .before .before .before
+  start = begun (c .before)
 
   abbrev file : List ℕ
   file = now (start .args .file)
 
   abbrev taken : ℕ
-  taken = c .before .before .taker .result
+  taken = best (c .before) .entry
 
   -- it was travelling
   travels : start .args .j .fate ≡ 3
-  travels = c .before .before .before .before .before .if1 .left
+  travels = c .before .before .before .before .before .before .if1 .left
 
-  one-below : taken < start .args .shape .entries
-  one-below = omega (arith, entries-are file (start .args .shape) (start .pre .0), c .before .before .taker .ensures .within, c .if2 .left)
+  entry-below : taken < start .args .shape .entries
+  entry-below = omega (arith, entries-are file (start .args .shape) (start .pre .0), one-below (c .before))
 
-  one-took : taker (fabricIn file) (start .args .j .port) (start .args .j .header) ≡ some taken
-  one-took = c .before .before .taker .ensures .one-takes (omega (arith, entries-are file (start .args .shape) (start .pre .0), one-below))
+  one-took : takers (fabricIn file) (start .args .j .port) (start .args .j .header) ≡ taken ∷ []
+  one-took = c .before .before .before .taker .ensures .one-takes (one-below (c .before)) (c .if3 .left)
 
 -- its bytes, its out-port and the header that it makes were read
 module _ (c : tie.After-entry) where
   entry-taken : let took = c .before in EntryRead (fabricIn (file took)) (taken took) (now (c .entry .result))
   entry-taken =
       let took = c .before in
-      entry-read (file took) (start took .args .shape) (start took .pre .0) (taken took) (one-below took) _ (c .entry .ensures)
+      entry-read (file took) (start took .args .shape) (start took .pre .0) (taken took) (entry-below took) _ (c .entry .ensures)
 
 out-is : (c : tie.After-out-port) → let took = c .before .before in outPortOf (fabricIn (file took)) (taken took) ≡ c .out-port .result
 out-is c = sym (c .out-port .ensures ∙ entry-taken (c .before) .out-port)
@@ -71,8 +82,14 @@ returns-2 c =
     hopped-lost _ (s .args .j) (c .before .before .before .before .before .if1 .left)
     (c .before .before .taker .ensures .none-takes (c .if2 .taken ∙ sym (entries-are (now (s .args .file)) (s .args .shape) (s .pre .0))))
 
+returns-3 : tie.Need-returns-3
+returns-3 c =
+    let some = c .before in
+    hopped-tied _ (begun some .args .j) (some .before .before .before .before .before .if1 .left)
+    (some .before .before .taker .ensures .several-take (one-below some) (c .if3 .taken))
+
 cast-entries : tie.Need-cast-entries
-cast-entries c = omega (arith, one-below c, few-entries (file c) (start c .args .shape) (start c .pre .0))
+cast-entries c = omega (arith, entry-below c, few-entries (file c) (start c .args .shape) (start c .pre .0))
 
 mul-entries : tie.Need-mul-entries
 mul-entries c = search needs
@@ -81,7 +98,7 @@ array-write-entries : tie.Need-array-write-entries
 array-write-entries c = search needs
 
 entry-requires : tie.Need-entry-requires
-entry-requires c κs = (start c .pre .0, one-below c)
+entry-requires c κs = (start c .pre .0, entry-below c)
 
 out-port-requires : tie.Need-out-port-requires
 out-port-requires c κs = entry-taken c .bytes .long
@@ -92,14 +109,14 @@ action-requires c κs = entry-taken (c .before) .bytes .long
 apply-requires : tie.Need-apply-requires
 apply-requires c κs = search needs
 
-add-t21 : tie.Need-add-t21
-add-t21 c = search needs
+add-t23 : tie.Need-add-t23
+add-t23 c = search needs
 
-returns-3 : tie.Need-returns-3
-returns-3 c =
+returns-4 : tie.Need-returns-4
+returns-4 c =
     let applied = c .before in
     let took = applied .before .before .before .before in
-    hopped-dropped _ (start took .args .j) (travels took) _ (one-took took) _ (header-is applied) (out-is (applied .before .before) ∙ c .if3 .taken)
+    hopped-dropped _ (start took .args .j) (travels took) _ (one-took took) _ (header-is applied) (out-is (applied .before .before) ∙ c .if4 .taken)
 
 link-after-requires : tie.Need-link-after-requires
 link-after-requires c κs =
@@ -107,25 +124,25 @@ link-after-requires c κs =
     let pre = start (out .before .before) .pre in
     (pre .0, (pre .1 .0, omega (arith, out .out-port .ensures, entry-taken (out .before) .bytes .out-high)))
 
-add-t23 : tie.Need-add-t23
-add-t23 c = search needs
-
-returns-4 : tie.Need-returns-4
-returns-4 c =
-    let applied = c .before .before .before in
-    let took = applied .before .before .before .before in
-    hopped-left _ (start took .args .j) (travels took) _ (one-took took) _ (header-is applied) _ (out-is (applied .before .before))
-    (c .before .before .if3 .left) (sym (c .before .link-after .ensures) ∙ c .if4 .taken)
-
-add-t17 : tie.Need-add-t17
-add-t17 c = search needs
+add-t25 : tie.Need-add-t25
+add-t25 c = search needs
 
 returns-5 : tie.Need-returns-5
 returns-5 c =
     let applied = c .before .before .before in
     let took = applied .before .before .before .before in
+    hopped-left _ (start took .args .j) (travels took) _ (one-took took) _ (header-is applied) _ (out-is (applied .before .before))
+    (c .before .before .if4 .left) (sym (c .before .link-after .ensures) ∙ c .if5 .taken)
+
+add-t19 : tie.Need-add-t19
+add-t19 c = search needs
+
+returns-6 : tie.Need-returns-6
+returns-6 c =
+    let applied = c .before .before .before in
+    let took = applied .before .before .before .before in
     hopped-on _ (start took .args .j) (travels took) _ (one-took took) _ (header-is applied) _ _ (out-is (applied .before .before))
-    (c .before .before .if3 .left) (sym (c .before .link-after .ensures)) (c .if4 .left)
+    (c .before .before .if4 .left) (sym (c .before .link-after .ensures)) (c .if5 .left)
 
 pub hop-spec : {M : Type 1} → statement M
 hop-spec =
@@ -134,6 +151,7 @@ hop-spec =
     returns
     taker-requires
     returns-2
+    returns-3
     cast-entries
     mul-entries
     array-write-entries
@@ -141,10 +159,10 @@ hop-spec =
     out-port-requires
     action-requires
     apply-requires
-    add-t21
-    returns-3
-    link-after-requires
     add-t23
     returns-4
-    add-t17
-    returns-5)
+    link-after-requires
+    add-t25
+    returns-5
+    add-t19
+    returns-6)

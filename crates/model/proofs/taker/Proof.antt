@@ -1,17 +1,20 @@
 -- `taker` meets its contract. The loop's invariant: `best` is the best of the entries passed. Assumes nothing.
+use mathlib.Core.Bool.{false}
 use mathlib.Core.Path.{_≡_, subst}
 use Prim.Native.Nat.{ℕ, _-_, _≤_}
 use borrow.Author.Needs.{needs}
 use denote.Ref.{now}
 use native.Mathlib.Omega.{arith}
-use Rattle.forwarding.proofs.Best.{Best, best-start, best-takes, best-none}
+use Rattle.forwarding.specs.Best.{BestSoFar}
+use Rattle.forwarding.proofs.Best.{best-start, best-alone, best-several, best-none}
 use Rattle.model.specs.Model.{fabricIn}
+use Rattle.model.specs.Taking.{IsBest}
 use Rattle.model.proofs.EntryRead.{entries-are}
 use Rattle.model.proofs.taker.Statement.{statement}
 use Rattle.model.proofs.taker.Tie as tie
 
 abbrev Inv-loop : tie.InvT-loop
-Inv-loop file shape x h n best₀ i₀ best i = (n ≡ shape .entries) × (i ≤ shape .entries) × (best ≤ shape .entries) × Best (fabricIn file) x h i best
+Inv-loop file shape x h n best₀ i₀ best i = (n ≡ shape .entries) × (i ≤ shape .entries) × (best .entry ≤ shape .entries) × IsBest (fabricIn file) x h i best
 
 abbrev μ-loop : tie.MeasureT-loop
 μ-loop file shape x h n best₀ i₀ best i = shape .entries - i
@@ -22,7 +25,7 @@ loop-holds c =
       search needs,
       search needs,
       search needs,
-      subst (Best (fabricIn (now (s .args .file))) (s .args .x) (s .args .h) 0) (entries-are (now (s .args .file)) (s .args .shape) (s .pre)) (best-start (fabricIn (now (s .args .file))) (s .args .x) (s .args .h)),
+      subst (λ (b : ℕ). BestSoFar (fabricIn (now (s .args .file))) (s .args .x) (s .args .h) 0 b false) (entries-are (now (s .args .file)) (s .args .shape) (s .pre)) (best-start (fabricIn (now (s .args .file))) (s .args .x) (s .args .h)),
     )
 
 better-requires : tie.Need-better-requires Inv-loop μ-loop
@@ -49,13 +52,13 @@ returns c =
     let s = c .before .before .before in
     let n = entries-are (now (s .args .file)) (s .args .shape) (s .pre) in
     let all : c .before .loop .i ≡ fabricIn (now (s .args .file)) .entries = omega (arith, n) in
-    let best : Best (fabricIn (now (s .args .file))) (s .args .x) (s .args .h) (fabricIn (now (s .args .file)) .entries) (c .before .loop .best) =
-    subst (λ (k : ℕ). Best (fabricIn (now (s .args .file))) (s .args .x) (s .args .h) k (c .before .loop .best)) all (c .before .loop .inv .3)
-    in
+    let r = c .before .loop .best in
+    let best = subst (λ (k : ℕ). IsBest (fabricIn (now (s .args .file))) (s .args .x) (s .args .h) k r) all (c .before .loop .inv .3) in
     record {
       within = omega (arith, n);
-      one-takes = best-takes (fabricIn (now (s .args .file))) (s .args .x) (s .args .h) (c .before .loop .best) best;
-      none-takes = λ e. best-none (fabricIn (now (s .args .file))) (s .args .x) (s .args .h) (c .before .loop .best) best (λ l. omega arith);
+      one-takes = best-alone (fabricIn (now (s .args .file))) (s .args .x) (s .args .h) (r .entry) (r .tied) best;
+      several-take = best-several (fabricIn (now (s .args .file))) (s .args .x) (s .args .h) (r .entry) (r .tied) best;
+      none-takes = λ e. best-none (fabricIn (now (s .args .file))) (s .args .x) (s .args .h) (r .entry) (r .tied) best (λ l. omega arith);
     }
 
 pub taker-spec : {M : Type 1} → statement M
