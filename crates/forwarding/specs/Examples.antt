@@ -139,9 +139,9 @@ one-hop = refl
 
 -- ---- equal priorities
 
--- two entries of one priority: entry 0 sends what it may take to edge port 2, entry 1 drops tp_dst 22
+-- two entries of one priority: entry 0 drops tp_dst 22, entry 1 sends all to edge port 2
 abbrev tie : Fabric
-tie = fabric (entryOf 10 1 2 (allWild 4) (noRewrite 4) ∷ entryOf 10 1 0 (tpDst 22) (noRewrite 4) ∷ [])
+tie = fabric (entryOf 10 1 0 (tpDst 22) (noRewrite 4) ∷ entryOf 10 1 2 (allWild 4) (noRewrite 4) ∷ [])
 
 -- W16: where both may take the packet, the run stops before the hop
 tie-run : run tie 1 1 (header 0 0 22 0) ≡ tied 1 (header 0 0 22 0) []
@@ -149,17 +149,17 @@ unfolding computing
 tie-run = refl
 
 -- where one alone may, the run goes on
-untied-run : run tie 1 1 (header 0 0 80 0) ≡ left 2 (header 0 0 80 0) (0 ∷ [])
+untied-run : run tie 1 1 (header 0 0 80 0) ≡ left 2 (header 0 0 80 0) (1 ∷ [])
 unfolding computing
 untied-run = refl
 
 -- W1: neither beats the other, so no trial is made, and the find holds tp_dst 22 too
-tie-back : trace tie 1 2 (allWild 4) ≡ unit ∷ find (record { port = 1; path = 0 ∷ []; set = allWild 4 }) ∷ []
+tie-back : trace tie 1 2 (allWild 4) ≡ unit ∷ find (record { port = 1; path = 1 ∷ []; set = allWild 4 }) ∷ []
 unfolding computing
 tie-back = refl
 
 -- 'reached' under one choice only: the run of the packet that it names is tied
-tie-verdict : verdictOn tie 2 1 (tpDst 22) ≡ reached 1 1 (0 ∷ []) (header 0 0 22 0)
+tie-verdict : verdictOn tie 2 1 (tpDst 22) ≡ reached 1 1 (1 ∷ []) (header 0 0 22 0)
 unfolding computing
 tie-verdict = refl
 

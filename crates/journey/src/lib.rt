@@ -55,6 +55,7 @@ fn hop(file: &[u8], shape: Shape, starts: &[u16; 4096], j: Journey) -> Journey
     let mut entries = j.entries;
     let best = model::taker(file, shape, port, header);
     let e = best.entry;
+    let tied = best.tied;
     if e == shape.entries {
         return Journey {
             fate: 2,
@@ -64,7 +65,7 @@ fn hop(file: &[u8], shape: Shape, starts: &[u16; 4096], j: Journey) -> Journey
             entries,
         };
     }
-    if best.tied {
+    if tied {
         return Journey {
             fate: 4,
             port,

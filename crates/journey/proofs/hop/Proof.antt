@@ -109,8 +109,8 @@ action-requires c κs = entry-taken (c .before) .bytes .long
 apply-requires : tie.Need-apply-requires
 apply-requires c κs = search needs
 
-add-t23 : tie.Need-add-t23
-add-t23 c = search needs
+add-t24 : tie.Need-add-t24
+add-t24 c = search needs
 
 returns-4 : tie.Need-returns-4
 returns-4 c =
@@ -124,8 +124,8 @@ link-after-requires c κs =
     let pre = start (out .before .before) .pre in
     (pre .0, (pre .1 .0, omega (arith, out .out-port .ensures, entry-taken (out .before) .bytes .out-high)))
 
-add-t25 : tie.Need-add-t25
-add-t25 c = search needs
+add-t26 : tie.Need-add-t26
+add-t26 c = search needs
 
 returns-5 : tie.Need-returns-5
 returns-5 c =
@@ -134,8 +134,8 @@ returns-5 c =
     hopped-left _ (start took .args .j) (travels took) _ (one-took took) _ (header-is applied) _ (out-is (applied .before .before))
     (c .before .before .if4 .left) (sym (c .before .link-after .ensures) ∙ c .if5 .taken)
 
-add-t19 : tie.Need-add-t19
-add-t19 c = search needs
+add-t20 : tie.Need-add-t20
+add-t20 c = search needs
 
 returns-6 : tie.Need-returns-6
 returns-6 c =
@@ -159,10 +159,10 @@ hop-spec =
     out-port-requires
     action-requires
     apply-requires
-    add-t23
+    add-t24
     returns-4
     link-after-requires
-    add-t25
+    add-t26
     returns-5
-    add-t19
+    add-t20
     returns-6)
