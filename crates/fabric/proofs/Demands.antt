@@ -1,12 +1,11 @@
 -- The three demands hold: the first of each call by its definition, the others by forwarding's theorems, as an accepted file's fabric is
 -- sound, and the words of an answer are read back as they were written. Assumes nothing.
-use mathlib.Core.Bool.{true, true≢false, false≢true}
-use mathlib.Core.List.{List, [], _∷_, _++_}
+use mathlib.Core.Bool.{true, false≢true}
+use mathlib.Core.List.{List, _++_}
 use mathlib.Core.Logic.{_↔_}
 use mathlib.Core.Option.{some}
 use mathlib.Core.Path.{_≡_, refl, sym, ap, ap₂, _∙_, subst}
 use Prim.Native.Nat.{ℕ, _*_, _/_, _^_, _≤_, _<_}
-use native.Mathlib.Decide.{decLt}
 use native.Mathlib.Omega.{arith}
 use borrow.Author.Tests.{ne-eqb, leb-true}
 use lib.ListN.{length, drop}
@@ -19,7 +18,6 @@ use Rattle.records.specs.declared.Shape.{Shape}
 use Rattle.questions.specs.Questions.{accepted}
 use Rattle.questions.specs.declared.Read.{Read}
 use Rattle.file.specs.Accepted.{Accepted}
-use Rattle.file.proofs.Accepted.{few-entries}
 use Rattle.forwarding.specs.Fabric.{Fabric, Sound}
 use Rattle.forwarding.specs.Trace.{units, finds}
 use Rattle.forwarding.specs.Verdict.{Verdict, isolated, reached, unitsIn, isIsolated, NoLeak}
@@ -31,22 +29,24 @@ use Rattle.forwarding.proofs.Arrivals as arrivals
 use Rattle.forwarding.proofs.Stops as stops
 use Rattle.forwarding.proofs.Verdicts as verdicts
 use Rattle.model.specs.Model.{fabricOf, fabricIn}
-use Rattle.model.proofs.Shapes.{fabric-is}
-use Rattle.model.proofs.Lookups.{edge-past}
 use Rattle.model.proofs.Soundness.{fabric-sound}
+use Rattle.events.specs.Play.{reachedWords}
 use Rattle.calls.specs.Questions.{Query, askedTidy, orRefused}
 use Rattle.calls.specs.Verdict.{verdictAsked, verdictWords}
 use Rattle.calls.specs.List.{traceAsked, wordsAsked}
 use Rattle.calls.proofs.Asking.{limit-range}
 use Rattle.fabric.specs.Calls.{answerOf, callOf}
-use Rattle.fabric.specs.Demands.{Demand1, Demand2, VerdictSays, ListSays, OfWords, Demand3}
-use Rattle.fabric.specs.Demands.{said, unitsSaid, portSaid, hopsSaid, headerSaid, entriesSaid, findsRead}
+use Rattle.fabric.specs.Demands.{Demand1, Demand2, VerdictSays, ListSays, RunSays, OfWords, Demand3}
+use Rattle.fabric.specs.Demands.{said, findsRead}
 use Rattle.fabric.specs.declared.Call.{Call}
 use Rattle.fabric.specs.declared.Call.the-variants as Calls
 use Rattle.fabric.proofs.Calls.{call-answers, succeeded}
-use Rattle.fabric.proofs.Said.{Fit, words-back}
+use Rattle.fabric.proofs.Said.{words-back}
 use Rattle.fabric.proofs.FindsSaid.{AllSayable, finds-back, fit-finds}
-use Rattle.fabric.proofs.VerdictSaid as VerdictSaid
+use Rattle.fabric.proofs.Bounds.{all-below, fit-entries, edge-port, entries-few}
+use Rattle.fabric.proofs.AnswerSaid.{answer-says}
+use Rattle.fabric.proofs.RunSaid.{run-said}
+use Rattle.fabric.proofs.IsolatedSaid as Isolated
 
 -- ---- demand 1
 
@@ -74,14 +74,6 @@ demand-2 f s ok e t h l wt w = back-traced-exactly (fabricIn f) (fabric-sound f 
 
 -- ---- demand 3: what the questions give, and what the words have room for
 
-all-below : (m n : ℕ) → m ≤ n → (l : List ℕ) → All (λ e. e < m) l → All (λ e. e < n) l
-all-below m n h [] a = tt
-all-below m n h (x ∷ l) a = (let b : x < m = a .0 in omega arith, all-below m n h l (a .1))
-
-fit-entries : (l : List ℕ) → All (λ e. e < 2 ^ 32) l → Fit l
-fit-entries [] a = tt
-fit-entries (x ∷ l) a = (a .0, fit-entries l (a .1))
-
 module _ (f : List ℕ) (s : Shape) (ok : Accepted f s) (q : Query) where
   abbrev F : Fabric
   F = fabricIn f
@@ -89,21 +81,10 @@ module _ (f : List ℕ) (s : Shape) (ok : Accepted f s) (q : Query) where
   sound : Sound F
   sound = fabric-sound f s ok
 
-  edge-port : (p : ℕ) → F .isEdge p ≡ true → p < 4096
-  edge-port p e = below (decLt p 4096)
-    where
-      below : Dec (p < 4096) → p < 4096
-      below (yes l) = l
-      below (no l) = absurd (true≢false (sym e ∙ edge-past f s ok p (omega arith)))
-
-  entries-few : F .entries ≤ 512
-  unfolding fabricOf
-  entries-few = rw (ap (λ (G : Fabric). G .entries) (fabric-is f s ok)) (few-entries f s ok)
-
   -- the entries of a way that a packet can go
   entries-low : {p : ℕ} {path : List ℕ} {h : Header} (n : ℕ) → 512 ≤ n → CanGo F (q .limit) (q .port) (q .asked) p path h
       → All (λ e. e < n) path
-  entries-low {p} {path} {h} n l c = all-below (F .entries) n (omega (arith, entries-few)) path (way-entries F p h c)
+  entries-low {p} {path} {h} n l c = all-below (F .entries) n (omega (arith, entries-few f s ok)) path (way-entries F p h c)
 
   module _ (edge : F .isEdge (q .port) ≡ true) (wa : WellFormed headerWords (q .asked)) (limit : q .limit ≤ 16)
       (budget : q .budget < 2 ^ 32) where
@@ -121,14 +102,14 @@ module _ (f : List ℕ) (s : Shape) (ok : Accepted f s) (q : Query) where
       unfolding isIsolated answered
       says-isolated u e l =
           let low : u < 2 ^ 32 = omega arith in
-          let zero = VerdictSaid.isolated-word-0 u area low in
-          let units-are = VerdictSaid.isolated-units-said u area low in
+          let zero = Isolated.isolated-word-0 u area low in
+          let units-are = Isolated.isolated-units-said u area low in
           let never : said (told (isolated u)) 0 ≡ 1 → ⊥ = λ d. omega (arith, zero) in
           record {
-            fills = omega (arith, VerdictSaid.isolated-long u area low);
+            fills = omega (arith, Isolated.isolated-long u area low);
             one-or-other = λ d. absurd (d zero);
             isolated-exactly = ((λ d. exactly .0 (ap isIsolated e)), λ safe. zero);
-            isolated-rest = λ d. VerdictSaid.isolated-rest-said u area low;
+            isolated-rest = λ d. Isolated.isolated-rest-said u area low;
             reached-first = λ d. absurd (never d);
             reached-leak = λ d. absurd (never d);
             reached-run = λ d. absurd (never d);
@@ -139,26 +120,20 @@ module _ (f : List ℕ) (s : Shape) (ok : Accepted f s) (q : Query) where
 
       says-reached : (u p : ℕ) (path : List ℕ) (h : Header) → verdictAsked F q ≡ reached u p path h → u ≤ q .budget
           → VerdictSays F q (told (reached u p path h))
-      unfolding isIsolated answered fabricIn fabricOf
+      unfolding isIsolated answered fabricIn fabricOf verdictWords reachedWords
       says-reached u p path h e l =
           let way = verdicts.reached-way F sound (q .limit) (q .port) (q .asked) wa u p path h e in
           let leak = verdicts.reached-leak F sound (q .limit) (q .port) (q .asked) edge wa u p path h e in
           let r = stops.reached-events F (q .port) (traceAsked F q) 0 u p path h e in
           let low : u < 2 ^ 32 = omega arith in
-          let port : p < 2 ^ 32 = omega (arith, edge-port p (way .edge-port)) in
+          let port : p < 2 ^ 32 = omega (arith, edge-port f s ok p (way .edge-port)) in
           let short : length path ≤ 16 = omega (arith, way .can-go .short) in
           let entries = fit-entries path (entries-low (2 ^ 32) (omega arith) (way .can-go)) in
-          let o : Outcome = told (reached u p path h) in
-          let one : said o 0 ≡ 1 = VerdictSaid.reached-word-0 u p path h area low port short entries (way .fits) in
-          let units-are : unitsSaid o ≡ u = VerdictSaid.reached-units-said u p path h area low port short entries (way .fits) in
-          let port-is : portSaid o ≡ p = VerdictSaid.reached-port-said u p path h area low port short entries (way .fits) in
-          let hops-are : hopsSaid o ≡ length path = VerdictSaid.reached-hops-said u p path h area low port short entries (way .fits) in
-          let header-is : headerSaid o ≡ h = VerdictSaid.reached-header-said u p path h area low port short entries (way .fits) in
-          let entries-are : entriesSaid o ≡ path = VerdictSaid.reached-entries-said u p path h area low port short entries (way .fits) in
-          let never : said o 0 ≡ 0 → ⊥ = λ d. omega (arith, one) in
+          let says = answer-says 1 u p path h area (omega arith) low port short entries (way .fits) in
+          let never : said (told (reached u p path h)) 0 ≡ 0 → ⊥ = λ d. omega (arith, says .first) in
           record {
-            fills = omega (arith, VerdictSaid.reached-long u p path h area low port short entries (way .fits));
-            one-or-other = λ d. one;
+            fills = says .fills;
+            one-or-other = λ d. says .first;
             isolated-exactly = ((λ d. absurd (never d)), λ safe. absurd (false≢true (ap isIsolated (sym e) ∙ exactly .1 safe)));
             isolated-rest = λ d. absurd (never d);
             reached-first = λ d. record {
@@ -166,19 +141,18 @@ module _ (f : List ℕ) (s : Shape) (ok : Accepted f s) (q : Query) where
               at = r .at;
               after = r .after;
               events = r .events;
-              made = units-are ∙ omega (arith, r .made);
+              made = says .second ∙ omega (arith, r .made);
               none-before = r .none-foreign;
-              packet = r .packet ∙ ap some (sym header-is);
-              port-is = r .port ∙ sym port-is;
-              path-is = r .path ∙ sym entries-are;
+              packet = r .packet ∙ ap some (sym (says .header));
+              port-is = r .port ∙ sym (says .port);
+              path-is = r .path ∙ sym (says .entries);
             };
-            reached-leak = λ d. rw (port-is, entries-are, header-is) leak;
-            reached-run = λ d. rw (port-is, entries-are, header-is)
+            reached-leak = λ d. rw (says .port, says .entries, says .header) leak;
+            reached-run = λ d. rw (says .port, says .entries, says .header)
                 (arrivals.arrival-run F (q .limit) (q .port) (q .asked) p path h (leak .arriving));
-            reached-rest = λ d k m.
-                VerdictSaid.reached-rest-said u p path h area low port short entries (way .fits) k (omega (arith, hops-are));
+            reached-rest = λ d k m. says .rest k (omega (arith, says .hops));
             isolated-units = λ d. absurd (never d);
-            within-budget = omega (arith, units-are);
+            within-budget = omega (arith, says .second);
           }
 
       verdict-said : unitsIn (verdictAsked F q) ≤ q .budget → VerdictSays F q (told (verdictAsked F q))
@@ -199,7 +173,7 @@ module _ (f : List ℕ) (s : Shape) (ok : Accepted f s) (q : Query) where
           let c = find-sound F sound (q .limit) (q .port) (q .asked) wa d m (lowest headerWords (d .set))
           (lowest-fits headerWords (d .set) (set-is .care)) (lowest-member headerWords (d .set) (set-is .care)) in
           record {
-            port = edge-port (d .port) (is .edge);
+            port = edge-port f s ok (d .port) (is .edge);
             hops = omega (arith, c .short);
             entries = entries-low (2 ^ 28) (omega arith) c;
             care = set-is .care;
@@ -240,6 +214,11 @@ demand-3 f q area w = record {
       subst (ListSays (fabricIn f) q) (sym (demand-1 Calls.List f q area .all-answered (yes .shape) (yes .is-accepted) (yes .no-no)))
       (list-said f (yes .shape) (yes .is-accepted) q (y .0) (tidied (y .1 .1 .0)) (limit-range (q .limit) (y .1 .0) .1) (w .budget) area
       (leb-true _ _ (y .1 .1 .1 .0)));
+  run-says = λ e.
+      let yes = succeeded Calls.Run f q area e in
+      let y = yes .yeses in
+      subst (RunSays (fabricIn f) q) (sym (demand-1 Calls.Run f q area .all-answered (yes .shape) (yes .is-accepted) (yes .no-no)))
+      (run-said f (yes .shape) (yes .is-accepted) q (y .1 .1 .0) (w .value) (limit-range (q .limit) (y .0) .1) area);
 }
   where
     tidied : askedTidy (q .asked) ≡ true → WellFormed headerWords (q .asked)

@@ -1,5 +1,8 @@
 mod Calls
 mod Said
 mod FindsSaid
-mod VerdictSaid
+mod Bounds
+mod AnswerSaid
+mod IsolatedSaid
+mod RunSaid
 pub mod Demands

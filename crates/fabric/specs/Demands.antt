@@ -1,7 +1,7 @@
 -- The user's three demands, clauses D1 to D3e; proofs/Demands.antt proves them. They speak of forwarding, and of what a call returns and
 -- leaves in the area lent: that a call ends, and returns and leaves what `callOf` says, is its contract. Assumes nothing.
 use mathlib.Core.Bool.{Bool, true, _&&_, cond}
-use mathlib.Core.List.{List, [], _∷_, _++_, List·Memᴰ}
+use mathlib.Core.List.{List, [], _∷_, _++_, reverse, List·Memᴰ}
 use mathlib.Core.Logic.{_↔_}
 use mathlib.Core.Option.{Option, some, none, Option·map}
 use mathlib.Core.Path.{_≡_}
@@ -18,8 +18,8 @@ use Rattle.questions.specs.Questions.{accepted, firstNo}
 use Rattle.questions.specs.declared.Read.the-variants.{No}
 use Rattle.file.specs.Accepted.{Accepted}
 use Rattle.forwarding.specs.Fabric.{Fabric, inPortOf, applied}
-use Rattle.forwarding.specs.Run.{takes, run, fateOf, entriesTaken}
-use Rattle.forwarding.specs.Choices.{Arrives}
+use Rattle.forwarding.specs.Run.{Packet, left, dropped, lost, travelling, tied, takes, run, fateOf, entriesTaken}
+use Rattle.forwarding.specs.Choices.{Tie, CanEnd, Arrives}
 use Rattle.forwarding.specs.BackTrace.{backTraced}
 use Rattle.forwarding.specs.Trace.{Find, Event, find, units, finds, findsBy}
 use Rattle.forwarding.specs.Verdict.{foreignPacket, Leak, NoLeak}
@@ -27,6 +27,7 @@ use Rattle.model.specs.Model.{fabricIn}
 use Rattle.calls.specs.Questions.{Query, answerWords}
 use Rattle.calls.specs.List.{traceAsked, listCall}
 use Rattle.calls.specs.Verdict.{verdictCall}
+use Rattle.calls.specs.Run.{runCall}
 use Rattle.fabric.specs.Calls.{questionsOf, wordsOf, callOf}
 use Rattle.fabric.specs.declared.Call.{Call}
 
@@ -173,6 +174,32 @@ pub record ListSays (f : Fabric) (q : Query) (o : Outcome) : Type 0 where
   -- D3d: the budget had the units of the whole back-trace
   pub within-budget : units (traceAsked f q) ≤ q .budget
 
+-- ---- the run
+
+-- W9: a packet by the number of its fate; the entries are the latest first
+abbrev pub fated : ℕ → ℕ → Header → List ℕ → Packet
+fated zero = left
+fated (suc zero) = dropped
+fated (suc (suc zero)) = lost
+fated (suc (suc (suc zero))) = travelling
+fated (suc (suc (suc (suc n)))) = tied
+
+-- A11: the words of a run have the places of a verdict's, but for the fate in word 0 and a 0 in word 1
+abbrev pub packetSaid : Outcome → Packet
+packetSaid o = fated (said o 0) (portSaid o) (headerSaid o) (reverse (entriesSaid o))
+
+pub record RunSays (f : Fabric) (q : Query) (o : Outcome) : Type 0 where
+  -- A11: it fills 24 words; A12: unused words are 0
+  pub fills : wordsWritten o ≡ answerWords
+  pub second : said o 1 ≡ 0
+  pub rest : (k : ℕ) → 4 + headerWords + hopsSaid o ≤ k → k < answerWords → said o k ≡ 0
+  -- D3f: a packet whose run is not tied can end as is said, and in no other way ..
+  pub can-end : ¬ (said o 0 ≡ 4) → CanEnd f (q .limit) (q .port) (q .asked .value) (packetSaid o)
+  pub only-end : ¬ (said o 0 ≡ 4) → (s : Packet) → CanEnd f (q .limit) (q .port) (q .asked .value) s → packetSaid o ≡ s
+  -- .. and one whose run is tied can come where is said, with a hop left, and more than one entry may take it there
+  pub tied-there : said o 0 ≡ 4 → Tie f (q .port) (q .asked .value) (portSaid o) (headerSaid o) (reverse (entriesSaid o))
+  pub hop-left : said o 0 ≡ 4 → hopsSaid o < q .limit
+
 -- ---- demand 3
 
 -- A2: the calls are handed numbers of 32 bits
@@ -181,7 +208,8 @@ pub record OfWords (q : Query) : Type 0 where
   pub care : Words headerWords (q .asked .care)
   pub value : Words headerWords (q .asked .value)
 
--- D3e: of every file, query and area, a verdict and a list that succeed say what forwarding does
+-- D3e: of every file, query and area, a verdict, a list and a run that succeed say what forwarding does
 pub record Demand3 (f : List ℕ) (q : Query) (area : List ℕ) : Type 0 where
   pub verdict-says : Succeeds (verdictCall f q area) → VerdictSays (fabricIn f) q (verdictCall f q area)
   pub list-says : Succeeds (listCall f q area) → ListSays (fabricIn f) q (listCall f q area)
+  pub run-says : Succeeds (runCall f q area) → RunSays (fabricIn f) q (runCall f q area)

@@ -9,6 +9,7 @@ pub mod Ways
 pub mod WaysBack
 pub mod WayByWay
 pub mod Finds
+pub mod RunFits
 pub mod RunWays
 pub mod Choices
 pub mod Arrivals

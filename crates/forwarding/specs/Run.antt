@@ -1,6 +1,6 @@
 -- The forwarding rule and the run of one packet: W2 to W13 and W16. What a packet can become under any choice is in Choices.antt.
 -- A packet may make any number of hops; the limit of 16 is a question that the calls ask.
-use mathlib.Core.Bool.{Bool, true, false, not, _&&_}
+use mathlib.Core.Bool.{Bool, not, _&&_}
 use mathlib.Core.List.{List, [], _∷_, reverse}
 use Prim.Native.Nat.{ℕ, zero, suc}
 use lib.Dec.{eqb, ltb}

@@ -4,3 +4,4 @@ pub mod EntryRead
 pub mod Candidates
 pub mod Lookups
 pub mod Links
+pub mod Ports
