@@ -51,7 +51,8 @@ pub record EqualsTable : Type 0 where
   pub H-words : length wordsOfH ≡ 111
   pub H-accepted : accepted H ≡ Fabric (shape 2 1 5)
   -- reached under one choice only: entry 1 would drop the packet that entry 2 may take
-  pub one-choice : Always 96 (verdictCall H (leaving 3 2 0)) (answered (1 ∷ 3 ∷ 1 ∷ 2 ∷ (header 0 0 2 0 ++ way (3 ∷ 2 ∷ []) 14)))
+  pub one-choice : Always 96 (verdictCall H (leaving 3 2 0))
+      (answered (1 ∷ 3 ∷ 1 ∷ 2 ∷ (header 0 0 2 0 ++ way (3 ∷ 2 ∷ []) 14)))
   -- what entry 0 takes none of the equals below it may take
   pub below : Always 96 (verdictCall H (leaving 3 3 0)) (answered (0 ∷ 3 ∷ replicate 22 0))
   pub listed : Always 84 (listCall H (leaving 4 2 6)) (answered twoWays)

@@ -117,8 +117,8 @@ pub record Says (a b p : ℕ) (path : List ℕ) (h : Header) (o : Outcome) : Typ
   pub entries : entriesSaid o ≡ path
   pub rest : (k : ℕ) → 4 + headerWords + length path ≤ k → k < answerWords → said o k ≡ 0
 
-pub answer-says : (a b p : ℕ) (path : List ℕ) (h : Header) (area : List ℕ) → a < 2 ^ 32 → b < 2 ^ 32 → p < 2 ^ 32 → length path ≤ 16
-    → Fit path → Words headerWords h → Says a b p path h (answered (filledBy a b p path h) area)
+pub answer-says : (a b p : ℕ) (path : List ℕ) (h : Header) (area : List ℕ) → a < 2 ^ 32 → b < 2 ^ 32 → p < 2 ^ 32
+    → length path ≤ 16 → Fit path → Words headerWords h → Says a b p path h (answered (filledBy a b p path h) area)
 unfolding answered
 answer-says a b p path h area first second port short entries header = record {
   fills = omega (arith, answer-long a b p path h area first second port short entries header);

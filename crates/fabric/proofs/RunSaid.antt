@@ -80,7 +80,10 @@ module _ (f : List ℕ) (s : Shape) (ok : Accepted f s) (q : Query) (edge : fabr
       ap (λ (n : ℕ). fateOf packet ∷ 0 ∷ portOf packet ∷ n ∷ (headerOf packet ++ sixteen (entriesTaken packet)))
       (sym (length-reverse (takenBy packet)))
 
-  says-words : Says (fateOf packet) 0 (portOf packet) (entriesTaken packet) (headerOf packet) (answered ws area)
+  abbrev SaysPacket : Type 0
+  SaysPacket = Says (fateOf packet) 0 (portOf packet) (entriesTaken packet) (headerOf packet) (answered ws area)
+
+  says-words : SaysPacket
   unfolding fabricIn fabricOf
   says-words =
       let fits = run-fits F (fabric-sound f s ok) 4096 (out-port-low f) (link-to-low f) (q .limit) (q .port) (q .asked .value)
@@ -97,9 +100,11 @@ module _ (f : List ℕ) (s : Shape) (ok : Accepted f s) (q : Query) (edge : fabr
       (fit-entries (entriesTaken packet) low)
       (fits .header)
 
-  says-run : Says (fateOf packet) 0 (portOf packet) (entriesTaken packet) (headerOf packet) (answered ws area) → RunSays F q (answered ws area)
+  says-run : SaysPacket → RunSays F q (answered ws area)
   says-run says =
-      let taken-are : reverse (entriesSaid (answered ws area)) ≡ takenBy packet = ap reverse (says .entries) ∙ reverse-reverse (takenBy packet) in
+      let taken-are : reverse (entriesSaid (answered ws area)) ≡ takenBy packet =
+      ap reverse (says .entries) ∙ reverse-reverse (takenBy packet)
+      in
       let packet-is : packetSaid (answered ws area) ≡ packet = rw (says .first, says .port, says .header, taken-are) (fated-is packet) in
       let tie : said (answered ws area) 0 ≡ 4 → fateOf packet ≡ 4 = λ d. sym (says .first) ∙ d in
       record {

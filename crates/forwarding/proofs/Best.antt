@@ -72,7 +72,8 @@ module _ (f : Fabric) (x : ℕ) (h : Header) where
   }
 
   -- entry i is below the best so far
-  pub best-keep : (i b : ℕ) (t : Bool) → BestSoFar f x h i b t → b < f .entries → priorityOf f i < priorityOf f b → BestSoFar f x h (i + 1) b t
+  pub best-keep : (i b : ℕ) (t : Bool) → BestSoFar f x h i b t → b < f .entries → priorityOf f i < priorityOf f b
+      → BestSoFar f x h (i + 1) b t
   best-keep i b t c m p = record {
     nothing = λ n. absurd (n m);
     below = λ l. omega (arith, c .below l);
@@ -83,8 +84,8 @@ module _ (f : Fabric) (x : ℕ) (h : Header) where
   }
 
   -- entry i is a candidate of the same priority
-  pub best-tie : (i b : ℕ) (t : Bool) → BestSoFar f x h i b t → b < f .entries → candidate f x h i ≡ true → priorityOf f i ≡ priorityOf f b
-      → BestSoFar f x h (i + 1) b true
+  pub best-tie : (i b : ℕ) (t : Bool) → BestSoFar f x h i b t → b < f .entries → candidate f x h i ≡ true
+      → priorityOf f i ≡ priorityOf f b → BestSoFar f x h (i + 1) b true
   best-tie i b t c m e p = record {
     nothing = λ n. absurd (n m);
     below = λ l. omega (arith, c .below l);
@@ -126,7 +127,8 @@ module _ (f : Fabric) (x : ℕ) (h : Header) where
     at-port e d = eqb-true _ _ (and-fst _ _ d)
 
     -- a candidate of the highest priority may take it
-    equal-takes : (e : ℕ) → e < f .entries → candidate f x h e ≡ true → priorityOf f e ≡ priorityOf f b → takes f e x h ≡ true
+    equal-takes : (e : ℕ) → e < f .entries → candidate f x h e ≡ true → priorityOf f e ≡ priorityOf f b
+        → takes f e x h ≡ true
     unfolding unbeaten
     equal-takes e m d p = takes-of f e x h (record {
       number = m;
@@ -138,7 +140,9 @@ module _ (f : Fabric) (x : ℕ) (h : Header) where
         better : (a : ℕ) → a < f .entries → (beats f a e && holds f a h) ≡ true → ⊥
         better a k q =
             let r = beats-means f a e (and-fst _ _ q) in
-            let is : candidate f x h a ≡ true = ap₂ _&&_ (eq-eqb x (inPortOf f a) (at-port e d ∙ sym (r .port))) (and-snd (beats f a e) _ q) in
+            let is : candidate f x h a ≡ true =
+            ap₂ _&&_ (eq-eqb x (inPortOf f a) (at-port e d ∙ sym (r .port))) (and-snd (beats f a e) _ q)
+            in
             omega (arith, r .high, c .highest l a k is)
 
     -- and no other does
@@ -166,5 +170,6 @@ module _ (f : Fabric) (x : ℕ) (h : Header) where
         several _ (r .number) b (r .other) (there (r .number) (r .low) (equal-takes (r .number) (r .low) (r .is-candidate) (r .equal)))
         (there b l (equal-takes b l (c .is-candidate l) refl))
       where
-        there : (e : ℕ) → e < f .entries → takes f e x h ≡ true → List·Memᴰ e (those (λ a. takes f a x h) (positions (f .entries) 0))
+        there : (e : ℕ) → e < f .entries → takes f e x h ≡ true
+            → List·Memᴰ e (those (λ a. takes f a x h) (positions (f .entries) 0))
         there e m d = those-member _ _ d (positions-member (f .entries) 0 e (omega arith) (omega arith))

@@ -117,7 +117,8 @@ module _ (f : Fabric) (p : ℕ) (h : Header) where
       go : Follows (length r) (travelling x g r) → Follows (suc (length r)) (hopBy f e x g r)
       go (inl q) = inl (ap fateOf (tie-stays f (run f (length r) p h) q) ∙ q)
       go (inr q) =
-          subst (λ (s : Packet). (fateOf s ≡ 4) ⊎ (s ≡ hopBy f e x g r)) (sym (ap (hop f) q)) (on (takers f x g) (taker-member f e x g t))
+          subst (λ (s : Packet). (fateOf s ≡ 4) ⊎ (s ≡ hopBy f e x g r)) (sym (ap (hop f) q))
+          (on (takers f x g) (taker-member f e x g t))
 
   -- ---- where a run can end
 

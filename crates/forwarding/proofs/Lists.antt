@@ -215,7 +215,8 @@ unfolding positions
 positions-member zero j e l m = absurd (omega arith)
 positions-member (suc k) j e l m = go (ℕ-discrete e j) (positions-member k (suc j) e)
   where
-    go : Dec (e ≡ j) → (suc j ≤ e → e < suc j + k → List·Memᴰ e (positions k (suc j))) → List·Memᴰ e (j ∷ positions k (suc j))
+    go : Dec (e ≡ j) → (suc j ≤ e → e < suc j + k → List·Memᴰ e (positions k (suc j)))
+        → List·Memᴰ e (j ∷ positions k (suc j))
     go (yes d) ih = List·Memᴰ·head d
     go (no d) ih = List·Memᴰ·tail (ih (omega arith) (omega arith))
 
@@ -224,22 +225,23 @@ unfolding those
 those-member t [] e m = m
 those-member t {a} (b ∷ l) e m = go (List·Memᴰ·cases-cons m) (t b) refl (those-member t l e)
   where
-    go : (a ≡ b) ⊎ List·Memᴰ a l → (c : Bool) → t b ≡ c → (List·Memᴰ a l → List·Memᴰ a (those t l)) → List·Memᴰ a (keepIf c b (those t l))
+    go : (a ≡ b) ⊎ List·Memᴰ a l → (c : Bool) → t b ≡ c → (List·Memᴰ a l → List·Memᴰ a (those t l))
+        → List·Memᴰ a (keepIf c b (those t l))
     go (inl d) true q ih = List·Memᴰ·head d
     go (inl d) false q ih = absurd (false≢true (sym q ∙ ap t (sym d) ∙ e))
     go (inr m) true q ih = List·Memᴰ·tail (ih m)
     go (inr m) false q ih = ih m
 
 -- the one that passes a test
-pub those-one : (t : ℕ → Bool) (k s b : ℕ) → s ≤ b → b < s + k → t b ≡ true → ((i : ℕ) → s ≤ i → i < s + k → ¬ (i ≡ b) → t i ≡ false)
-    → those t (positions k s) ≡ b ∷ []
+pub those-one : (t : ℕ → Bool) (k s b : ℕ) → s ≤ b → b < s + k → t b ≡ true
+    → ((i : ℕ) → s ≤ i → i < s + k → ¬ (i ≡ b) → t i ≡ false) → those t (positions k s) ≡ b ∷ []
 unfolding those positions
 those-one t zero s b l m e d = absurd (omega arith)
 those-one t (suc k) s b l m e d = go (ℕ-discrete s b) (those-one t k (suc s) b)
   where
     go : Dec (s ≡ b)
-        → (suc s ≤ b → b < suc s + k → t b ≡ true → ((i : ℕ) → suc s ≤ i → i < suc s + k → ¬ (i ≡ b) → t i ≡ false)
-        → those t (positions k (suc s)) ≡ b ∷ [])
+        → (suc s ≤ b → b < suc s + k → t b ≡ true
+        → ((i : ℕ) → suc s ≤ i → i < suc s + k → ¬ (i ≡ b) → t i ≡ false) → those t (positions k (suc s)) ≡ b ∷ [])
         → keepIf (t s) s (those t (positions k (suc s))) ≡ b ∷ []
     go (yes q) ih = rw (q, e, those-none t k (suc b) (λ i n p. d i (omega arith) (omega arith) (λ z. omega arith)))
     go (no q) ih = rw (d s (omega arith) (omega arith) q) (ih (omega arith) (omega arith) e (λ i n p z. d i (omega arith) (omega arith) z))

@@ -38,7 +38,8 @@ module _ (f : Fabric) (sound : Sound f) (m : ℕ) (out : (e : ℕ) → outPortOf
       go : (l : List ℕ) → takers f x h ≡ l → PacketFits (forwarded f x h r l)
       go [] q = record { port = c .port; header = c .header; entries = c .entries }
       go (e ∷ []) q =
-          on (outPortOf f e) (f .linkTo (outPortOf f e)) e refl refl (takes-means f e x h (first-of _ (f .entries) 0 e [] q .passes) .number)
+          on (outPortOf f e) (f .linkTo (outPortOf f e)) e refl refl
+          (takes-means f e x h (first-of _ (f .entries) 0 e [] q .passes) .number)
       go (e ∷ d ∷ l) q = record { port = c .port; header = c .header; entries = c .entries }
 
   pub run-fits : (k p : ℕ) (h : Header) → p < m → Words (f .words) h → PacketFits (run f k p h)

@@ -54,7 +54,8 @@ module _ (f : Fabric) (sound : Sound f) (p : ℕ) (h : Header) where
           subst (CanBe f p h) there (taken e y k r c te)
 
       go : (s : Place) → stands f p h r ≡ s → onward f (departs f e s) ≡ at x g
-          → ((x : ℕ) (g : Header) → stands f p h r ≡ at x g → CanBe f p h (travelling x g r)) → CanBe f p h (travelling x g (e ∷ r))
+          → ((x : ℕ) (g : Header) → stands f p h r ≡ at x g → CanBe f p h (travelling x g r))
+          → CanBe f p h (travelling x g (e ∷ r))
       go nowhere a d ih = let q : _≡_ {A = ℕ} 0 1 = cc in absurd (omega arith)
       go (at y k) a d ih = on y k (takes f e y k) (outPortOf f e) (f .linkTo (outPortOf f e)) refl refl refl d (ih y k a)
 

@@ -33,7 +33,8 @@ pub holds-own : (n : ℕ) (h : Header) (d : Find) → contains n (d .set) h ≡ 
 holds-own n h d e = ap₂ _&&_ (eq-eqb (d .port) (d .port) refl) (ap₂ _&&_ (same-refl (d .path)) e)
 
 -- how many finds do, as a sum
-pub finds-by-total : (n p : ℕ) (q : List ℕ) (h : Header) (l : List Find) → findsBy n p q h l ≡ total (λ d. one (holdsBy n p q h d)) l
+pub finds-by-total : (n p : ℕ) (q : List ℕ) (h : Header) (l : List Find)
+    → findsBy n p q h l ≡ total (λ d. one (holdsBy n p q h d)) l
 unfolding findsBy total
 finds-by-total n p q h [] = refl
 finds-by-total n p q h (d ∷ l) = ap (λ (m : ℕ). one (holdsBy n p q h d) + m) (finds-by-total n p q h l)

@@ -25,5 +25,6 @@ module _ (f : Fabric) (x : ℕ) (h : Header) where
     pub below : b < f .entries → b < i
     pub is-candidate : b < f .entries → candidate b ≡ true
     pub highest : b < f .entries → (j : ℕ) → j < i → candidate j ≡ true → priorityOf f j ≤ priorityOf f b
-    pub alone : b < f .entries → t ≡ false → (j : ℕ) → j < i → candidate j ≡ true → priorityOf f j ≡ priorityOf f b → j ≡ b
+    pub alone : b < f .entries → t ≡ false → (j : ℕ) → j < i → candidate j ≡ true
+        → priorityOf f j ≡ priorityOf f b → j ≡ b
     pub rival : b < f .entries → t ≡ true → Rival i b

@@ -11,8 +11,10 @@ use Rattle.forwarding.specs.Run.{Packet, left, dropped, lost, travelling
 -- W15: what a packet with header h, started at port p, can become, any entry that may take it being chosen afresh at each hop
 pub data CanBe (f : Fabric) (p : ℕ) (h : Header) : Packet → Type 0 where
   started : CanBe f p h (travelling p h [])
-  taken : (e x : ℕ) (g : Header) (r : List ℕ) → CanBe f p h (travelling x g r) → takes f e x g ≡ true → CanBe f p h (hopBy f e x g r)
-  untaken : (x : ℕ) (g : Header) (r : List ℕ) → CanBe f p h (travelling x g r) → takers f x g ≡ [] → CanBe f p h (lost x g r)
+  taken : (e x : ℕ) (g : Header) (r : List ℕ) → CanBe f p h (travelling x g r)
+      → takes f e x g ≡ true → CanBe f p h (hopBy f e x g r)
+  untaken : (x : ℕ) (g : Header) (r : List ℕ) → CanBe f p h (travelling x g r)
+      → takers f x g ≡ [] → CanBe f p h (lost x g r)
 
 -- a list with more than one element
 pub record Several (l : List ℕ) : Type 0 where

@@ -286,7 +286,8 @@ ports : map portOf packets ≡ 2 ∷ 1 ∷ 1 ∷ 4 ∷ 4 ∷ []
 unfolding computing
 ports = refl
 
-headers : map headerOf packets ≡ header 0 0x0a000002 2 0 ∷ header 0 0 1 0 ∷ header 0 0 2 0 ∷ header 0 0 5 0 ∷ header 0 0 22 0 ∷ []
+headers : map headerOf packets
+    ≡ header 0 0x0a000002 2 0 ∷ header 0 0 1 0 ∷ header 0 0 2 0 ∷ header 0 0 5 0 ∷ header 0 0 22 0 ∷ []
 unfolding computing
 headers = refl
 

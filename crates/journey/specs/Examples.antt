@@ -30,6 +30,7 @@ unfolding sixteen fateOf portOf headerOf takenBy packetWords
 travelling-words = refl
 
 -- tied at port 12 after entry 5
-tied-words : packetWords (tied 12 (1 ∷ 6 ∷ 8 ∷ 9 ∷ []) (5 ∷ [])) ≡ 4 ∷ 0 ∷ 12 ∷ 1 ∷ 1 ∷ 6 ∷ 8 ∷ 9 ∷ 5 ∷ replicate 15 0
+tied-words : packetWords (tied 12 (1 ∷ 6 ∷ 8 ∷ 9 ∷ []) (5 ∷ []))
+    ≡ 4 ∷ 0 ∷ 12 ∷ 1 ∷ 1 ∷ 6 ∷ 8 ∷ 9 ∷ 5 ∷ replicate 15 0
 unfolding sixteen fateOf portOf headerOf takenBy packetWords
 tied-words = refl

@@ -58,8 +58,8 @@ module _ (f : List ℕ) (s : Shape) (ok : Accepted f s) (x : ℕ) (h : Header) (
         within = within;
       }
 
-      pub better-tie : b .entry < fabricIn f .entries → candidate (fabricIn f) x h i ≡ true → outranks q p ≡ false → outranks p q ≡ false
-          → Better (fabricIn f) x h i b (record { entry = b .entry; tied = true })
+      pub better-tie : b .entry < fabricIn f .entries → candidate (fabricIn f) x h i ≡ true
+          → outranks q p ≡ false → outranks p q ≡ false → Better (fabricIn f) x h i b (record { entry = b .entry; tied = true })
       better-tie l d o u = record {
         best-then = λ c. best-tie (fabricIn f) x h i (b .entry) (b .tied) c l d (omega (arith, ltb-false p q o, ltb-false q p u));
         within = within;

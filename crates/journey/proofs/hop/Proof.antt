@@ -27,7 +27,12 @@ module _ (c : tie.Else2) where
   best = c .before .before .taker .result
 
   one-below : best .entry < fabricIn (now (begun .args .file)) .entries
-  one-below = omega (arith, entries-are (now (begun .args .file)) (begun .args .shape) (begun .pre .0), c .before .before .taker .ensures .within, c .if2 .left)
+  one-below = omega (
+    arith,
+    entries-are (now (begun .args .file)) (begun .args .shape) (begun .pre .0),
+    c .before .before .taker .ensures .within,
+    c .if2 .left,
+  )
 
 -- one entry took it
 module _ (c : tie.Else3) where
@@ -116,7 +121,8 @@ returns-4 : tie.Need-returns-4
 returns-4 c =
     let applied = c .before in
     let took = applied .before .before .before .before in
-    hopped-dropped _ (start took .args .j) (travels took) _ (one-took took) _ (header-is applied) (out-is (applied .before .before) ∙ c .if4 .taken)
+    hopped-dropped _ (start took .args .j) (travels took) _ (one-took took) _ (header-is applied)
+    (out-is (applied .before .before) ∙ c .if4 .taken)
 
 link-after-requires : tie.Need-link-after-requires
 link-after-requires c κs =

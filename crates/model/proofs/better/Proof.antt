@@ -41,7 +41,8 @@ chosen c =
     (sym (tested (c .before .before)) ∙ not-false _ (c .before .if2 .left))
 
 -- the best so far is an entry
-best-below : (c : tie.Else3) → let s = c .before .before .before .before .before .before .before .before .before in s .args .best .entry < s .args .shape .entries
+best-below : (c : tie.Else3) → let s = c .before .before .before .before .before .before .before .before .before in
+    s .args .best .entry < s .args .shape .entries
 best-below c =
     let s = c .before .before .before .before .before .before .before .before .before in
     omega (arith, s .pre .1 .1, c .if3 .left)
@@ -61,7 +62,8 @@ first-read c = c .before .before .before .before .before .before .before .before
 
 -- the two priorities that are compared
 ranks : (c : tie.After-priority2) → let s = start c in
-    (c .before .priority .result ≡ priorityOf (fabricIn (now (s .args .file))) (s .args .best .entry)) × (c .priority2 .result ≡ priorityOf (fabricIn (now (s .args .file))) (s .args .i))
+    (c .before .priority .result ≡ priorityOf (fabricIn (now (s .args .file))) (s .args .best .entry))
+    × (c .priority2 .result ≡ priorityOf (fabricIn (now (s .args .file))) (s .args .i))
 ranks c = (
   c .before .priority .ensures ∙ entry-b (c .before .before) .priority,
   c .priority2 .ensures ∙ entry-i (first-read c) .priority,
@@ -95,7 +97,8 @@ returns-2 c =
 returns-3 : tie.Need-returns-3
 returns-3 c =
     let s = c .before .before .before .before .before .before .before .before .before in
-    better-first (now (s .args .file)) (s .args .shape) (s .pre .0) _ _ _ _ (entry-i (c .before .before .before .before .before .before .before)) _ (within s)
+    better-first (now (s .args .file)) (s .args .shape) (s .pre .0) _ _ _ _
+    (entry-i (c .before .before .before .before .before .before .before)) _ (within s)
     (chosen (c .before)) (λ l. absurd (omega (arith, entries-are (now (s .args .file)) (s .args .shape) (s .pre .0), c .if3 .taken)))
 
 entry-requires-2 : tie.Need-entry-requires-2
@@ -107,7 +110,8 @@ priority-requires c κs = entry-b c .bytes .long
 priority-requires-2 : tie.Need-priority-requires-2
 priority-requires-2 c κs = entry-i (c .before .before .before .before .before .before .before .before .before) .bytes .long
 
-is-candidate : (c : tie.After-priority2) → let s = start c in candidate (fabricIn (now (s .args .file))) (s .args .x) (s .args .h) (s .args .i) ≡ true
+is-candidate : (c : tie.After-priority2) → let s = start c in
+    candidate (fabricIn (now (s .args .file))) (s .args .x) (s .args .h) (s .args .i) ≡ true
 is-candidate c = chosen (c .before .before .before .before)
 
 outranks-requires : tie.Need-outranks-requires
@@ -117,7 +121,8 @@ returns-4 : tie.Need-returns-4
 returns-4 c =
     let read = c .before .before in
     let s = start read in
-    better-take (now (s .args .file)) (s .args .shape) (s .pre .0) _ _ _ _ (entry-i (first-read read)) _ (within s) (ranks read .0) (ranks read .1)
+    better-take (now (s .args .file)) (s .args .shape) (s .pre .0) _ _ _ _ (entry-i (first-read read)) _ (within s)
+    (ranks read .0) (ranks read .1)
     (is-candidate read) (sym (c .before .outranks .ensures) ∙ c .if4 .taken)
 
 outranks-requires-2 : tie.Need-outranks-requires-2
@@ -127,15 +132,18 @@ returns-5 : tie.Need-returns-5
 returns-5 c =
     let read = c .before .before .before .before in
     let s = start read in
-    better-keep (now (s .args .file)) (s .args .shape) (s .pre .0) _ _ _ _ (entry-i (first-read read)) _ (within s) (ranks read .0) (ranks read .1)
+    better-keep (now (s .args .file)) (s .args .shape) (s .pre .0) _ _ _ _ (entry-i (first-read read)) _ (within s)
+    (ranks read .0) (ranks read .1)
     (entry-b (read .before .before) .number) (sym (c .before .outranks2 .ensures) ∙ c .if5 .taken)
 
 returns-6 : tie.Need-returns-6
 returns-6 c =
     let read = c .before .before .before .before in
     let s = start read in
-    better-tie (now (s .args .file)) (s .args .shape) (s .pre .0) _ _ _ _ (entry-i (first-read read)) _ (within s) (ranks read .0) (ranks read .1)
-    (entry-b (read .before .before) .number) (is-candidate read) (sym (c .before .before .before .outranks .ensures) ∙ c .before .before .if4 .left)
+    better-tie (now (s .args .file)) (s .args .shape) (s .pre .0) _ _ _ _ (entry-i (first-read read)) _ (within s)
+    (ranks read .0) (ranks read .1)
+    (entry-b (read .before .before) .number) (is-candidate read)
+    (sym (c .before .before .before .outranks .ensures) ∙ c .before .before .if4 .left)
     (sym (c .before .outranks2 .ensures) ∙ c .if5 .left)
 
 pub better-spec : {M : Type 1} → statement M

@@ -14,7 +14,8 @@ use Rattle.model.proofs.taker.Statement.{statement}
 use Rattle.model.proofs.taker.Tie as tie
 
 abbrev Inv-loop : tie.InvT-loop
-Inv-loop file shape x h n best₀ i₀ best i = (n ≡ shape .entries) × (i ≤ shape .entries) × (best .entry ≤ shape .entries) × IsBest (fabricIn file) x h i best
+Inv-loop file shape x h n best₀ i₀ best i =
+    (n ≡ shape .entries) × (i ≤ shape .entries) × (best .entry ≤ shape .entries) × IsBest (fabricIn file) x h i best
 
 abbrev μ-loop : tie.MeasureT-loop
 μ-loop file shape x h n best₀ i₀ best i = shape .entries - i
@@ -25,7 +26,9 @@ loop-holds c =
       search needs,
       search needs,
       search needs,
-      subst (λ (b : ℕ). BestSoFar (fabricIn (now (s .args .file))) (s .args .x) (s .args .h) 0 b false) (entries-are (now (s .args .file)) (s .args .shape) (s .pre)) (best-start (fabricIn (now (s .args .file))) (s .args .x) (s .args .h)),
+      subst (λ (b : ℕ). BestSoFar (fabricIn (now (s .args .file))) (s .args .x) (s .args .h) 0 b false)
+          (entries-are (now (s .args .file)) (s .args .shape) (s .pre))
+          (best-start (fabricIn (now (s .args .file))) (s .args .x) (s .args .h)),
     )
 
 better-requires : tie.Need-better-requires Inv-loop μ-loop
