@@ -2,12 +2,14 @@
 -- another has the same. Assumes nothing.
 use mathlib.Core.Bool.{Bool, true, false, not, _&&_, true≢false, false≢true}
 use mathlib.Core.List.{List, [], _∷_, List·Memᴰ, List·Memᴰ·not-nil, List·Memᴰ·eq-of-singleton}
-use mathlib.Core.Path.{_≡_, refl, sym, ap, ap₂, _∙_}
-use Prim.Native.Nat.{ℕ, _+_, _≤_, _<_}
+use mathlib.Core.Path.{_≡_, refl, sym, ap, ap₂, _∙_, subst}
+use Prim.Native.Nat.{ℕ, zero, suc, _+_, _≤_, _<_}
+use native.Mathlib.Numerals.{add-one}
 use native.Mathlib.Decide.{ℕ-discrete, decLt}
 use native.Mathlib.Omega.{arith}
 use borrow.Author.Tests.{eq-eqb, eqb-true}
 use lib.Dec.{eqb}
+use lib.ListN.{length}
 use Rattle.headers.specs.Bits.{positions, those}
 use Rattle.headers.specs.Sets.{Header}
 use Rattle.headers.proofs.Booleans.{and-fst, and-snd, refuted}
@@ -173,3 +175,37 @@ module _ (f : Fabric) (x : ℕ) (h : Header) where
         there : (e : ℕ) → e < f .entries → takes f e x h ≡ true
             → List·Memᴰ e (those (λ a. takes f a x h) (positions (f .entries) 0))
         there e m d = those-member _ _ d (positions-member (f .entries) 0 e (omega arith) (omega arith))
+
+  -- ---- W2: where an entry holds the header, some entry may take it
+
+  -- the pass finds a best
+  passed : (i : ℕ) → i ≤ f .entries → (b : ℕ) × (t : Bool) × BestSoFar f x h i b t
+  passed zero l = (f .entries, false, best-start)
+  passed (suc i) l = go (passed i (omega arith)) (candidate f x h i) refl
+    where
+      on : (b : ℕ) (t : Bool) → BestSoFar f x h i b t → candidate f x h i ≡ true → Dec (b < f .entries)
+          → Dec (priorityOf f b < priorityOf f i) → Dec (priorityOf f i < priorityOf f b)
+          → (b : ℕ) × (t : Bool) × BestSoFar f x h (i + 1) b t
+      on b t c e (no m) p q = (i, false, best-take i b t c (omega arith) e (λ n. absurd (m n)))
+      on b t c e (yes m) (yes p) q = (i, false, best-take i b t c (omega arith) e (λ n. p))
+      on b t c e (yes m) (no p) (yes q) = (b, t, best-keep i b t c m q)
+      on b t c e (yes m) (no p) (no q) = (b, true, best-tie i b t c m e (omega arith))
+
+      next : (c : (b : ℕ) × (t : Bool) × BestSoFar f x h i b t) → (d : Bool) → candidate f x h i ≡ d
+          → (b : ℕ) × (t : Bool) × BestSoFar f x h (i + 1) b t
+      next c false e = (c .0, c .1, best-skip i (c .0) (c .1) (c .2) e)
+      next c true e =
+          let b = c .0 in
+          on b (c .1) (c .2) e (decLt b (f .entries)) (decLt (priorityOf f b) (priorityOf f i)) (decLt (priorityOf f i) (priorityOf f b))
+
+      go : (c : (b : ℕ) × (t : Bool) × BestSoFar f x h i b t) → (d : Bool) → candidate f x h i ≡ d
+          → (b : ℕ) × (t : Bool) × BestSoFar f x h (suc i) b t
+      go c d e = subst (λ (k : ℕ). (b : ℕ) × (t : Bool) × BestSoFar f x h k b t) (add-one i) (next c d e)
+
+  pub some-takes : (e : ℕ) → e < f .entries → candidate f x h e ≡ true → ¬ (takers f x h ≡ [])
+  some-takes e l d none = let c = passed (f .entries) (omega arith) in go (c .0) (c .1) (c .2) (decLt (c .0) (f .entries))
+    where
+      go : (b : ℕ) (t : Bool) → BestSoFar f x h (f .entries) b t → Dec (b < f .entries) → ⊥
+      go b t c (no m) = true≢false (sym d ∙ c .nothing m e l)
+      go b false c (yes m) = let z = ap length (sym (best-alone b false c m refl) ∙ none) in omega arith
+      go b true c (yes m) = let s = best-several b true c m refl in let z = ap length (sym (s .is) ∙ none) in omega arith

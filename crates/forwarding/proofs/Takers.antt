@@ -1,11 +1,14 @@
--- Beating and taking, and the entries that may take a header. Assumes nothing.
-use mathlib.Core.Bool.{true}
-use mathlib.Core.Path.{_≡_}
+-- Beating and taking, and the entries that may take a header.
+use mathlib.Core.Bool.{true, not, _&&_, false≢true}
+use mathlib.Core.Path.{_≡_, sym, ap, ap₂, _∙_}
 use Prim.Native.Nat.{ℕ, _<_}
+use native.Mathlib.Decide.{decLt}
+use native.Mathlib.Omega.{arith}
 use borrow.Author.Tests.{eq-eqb, eqb-true, ltb-true, lt-ltb}
 use lib.Dec.{eqb, ltb}
 use Rattle.headers.specs.Sets.{Header}
 use Rattle.headers.proofs.Booleans.{and-fst, and-snd}
+use Rattle.headers.proofs.Positions.{every-at}
 use Rattle.forwarding.specs.Fabric.{Fabric, inPortOf, priorityOf, holds, beats}
 use Rattle.forwarding.specs.Run.{unbeaten, takes}
 
@@ -49,3 +52,22 @@ module _ (f : Fabric) (e x : ℕ) (h : Header) where
   pub takes-of : Takes → takes f e x h ≡ true
   unfolding takes
   takes-of t = rw (lt-ltb e (f .entries) (t .number), eq-eqb x (inPortOf f e) (t .port), t .match) (t .best)
+
+-- W2: entries that may take one header are of one priority
+module _ (f : Fabric) (x : ℕ) (h : Header) where
+  -- none of them is below another
+  not-below : (e d : ℕ) → takes f e x h ≡ true → takes f d x h ≡ true → ¬ (priorityOf f e < priorityOf f d)
+  unfolding unbeaten
+  not-below e d t u l =
+      let a = takes-means f e x h t in
+      let b = takes-means f d x h u in
+      let above = higher-beats f d e (sym (b .port) ∙ a .port) l in
+      false≢true (sym (ap not (ap₂ _&&_ above (b .match))) ∙ every-at (f .entries) _ (a .best) d (b .number))
+
+  pub takers-equal : (e d : ℕ) → takes f e x h ≡ true → takes f d x h ≡ true → priorityOf f e ≡ priorityOf f d
+  takers-equal e d t u = go (decLt (priorityOf f e) (priorityOf f d)) (decLt (priorityOf f d) (priorityOf f e))
+    where
+      go : Dec (priorityOf f e < priorityOf f d) → Dec (priorityOf f d < priorityOf f e) → priorityOf f e ≡ priorityOf f d
+      go (yes l) c = absurd (not-below e d t u l)
+      go (no l) (yes m) = absurd (not-below d e u t m)
+      go (no l) (no m) = omega arith
