@@ -42,7 +42,8 @@ fn accepted(asked: Result<usize, Refusal>) -> Result<(), Refusal> {
     }
 }
 
-/// One packet's way from an edge port.
+/// One packet's way from an edge port. Where two or more entries of the highest
+/// priority match, it stops with [`Fate::Tied`](crate::Fate::Tied).
 ///
 /// ```
 /// use mwishovala::{run, text, Fate, Header};

@@ -19,6 +19,7 @@ mod show;
 mod source;
 mod table;
 mod threads;
+mod ties;
 mod verdict;
 
 use std::ffi::OsString;

@@ -80,15 +80,16 @@ impl<const N: usize> Fabric<N> {
         self.links.iter().find(|link| link.from == port)
     }
 
+    /// The entries with their numbers; no file has more of them than that.
+    pub(crate) fn numbered(&self) -> impl Iterator<Item = (u16, &Entry<N>)> {
+        (0..=u16::MAX).zip(&self.entries)
+    }
+
     /// The entries that beat this one, in file order.
-    pub(crate) fn beaters(&self, number: u16) -> impl Iterator<Item = &Entry<N>> {
-        let beaten = self.entries.get(usize::from(number));
-        let entries = self.entries.iter().enumerate();
-        entries.filter_map(move |(place, entry)| {
-            let beaten = beaten.filter(|beaten| beaten.in_port == entry.in_port)?;
-            let higher = entry.priority > beaten.priority;
-            let earlier = entry.priority == beaten.priority && place < usize::from(number);
-            (higher || earlier).then_some(entry)
-        })
+    pub(crate) fn beaters(&self, beaten: &Entry<N>) -> impl Iterator<Item = &Entry<N>> {
+        let beaten = *beaten;
+        self.entries
+            .iter()
+            .filter(move |entry| entry.beats(&beaten))
     }
 }

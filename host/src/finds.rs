@@ -8,7 +8,9 @@ use crate::words::Words;
 const FIND: u32 = 6;
 const TAKEN: u32 = 7;
 
-/// Headers that arrive at the target from one edge port by one way.
+/// Headers that arrive at the target from one edge port by one way. Where
+/// entries of the same priority match, a header may stand in several finds, by
+/// different ways; [`Equals::along`](crate::Equals::along) says where.
 #[derive(Clone, Copy, Debug, PartialEq, Eq)]
 #[non_exhaustive]
 pub struct Find<const N: usize = 4> {
@@ -16,7 +18,7 @@ pub struct Find<const N: usize = 4> {
     pub port: u16,
     /// How many hops they make.
     pub hops: u32,
-    /// The entries that take them.
+    /// The entries that take them by one choice.
     pub entries: Path,
     /// Their headers there.
     pub set: HeaderSet<N>,

@@ -8,12 +8,10 @@
 
 use std::fmt;
 
-use crate::calls::run;
 use crate::fabric::Fabric;
 use crate::field::Field;
 use crate::header::{Header, HeaderSet};
 use crate::query::Query;
-use crate::run::Fate;
 use crate::verdict::Verdict;
 
 /// The VLAN of a frame without a tag, in OpenFlow 1.0.
@@ -157,18 +155,19 @@ fn with(mut set: HeaderSet, field: Field, care: u64, value: u64) -> Option<Heade
 }
 
 /// A foreign packet that a host can send, of the same find as a reached
-/// verdict's packet; none if there is none. The proved run has taken it to the
-/// target.
+/// verdict's packet; none if there is none. What vouches for it is that find,
+/// whose way the proved call gave: all of its packets may take it. This only
+/// traces its headers back and follows the packet along the same way, as
+/// [`Fabric::takers`] allows; a packet run would stop where there is a choice.
 pub fn instead(file: &[u8], query: &Query, verdict: &Verdict) -> Option<Header> {
     let fabric = Fabric::read(file).ok()?;
-    let Verdict::Reached { port, .. } = *verdict else {
+    let Verdict::Reached { port, entries, .. } = verdict else {
         return None;
     };
     let target = fabric.edge(u16::try_from(query.port).ok()?)?;
-    let edge = fabric.edge(port)?;
+    let edge = fabric.edge(*port)?;
     let admitted = (edge.group == target.group).then_some(&edge.admitted);
     let header = sendable_in(&verdict.find(&fabric, query)?, admitted)?;
-    let way = run(file, port.into(), header, query.hops).ok()?;
-    let arrives = way.fate == Fate::Left && way.port == target.port;
-    (arrives && query.asked.contains(&way.header)).then_some(header)
+    let (exit, left_with) = fabric.exit_by(*port, &header, entries)?;
+    (exit == target.port && query.asked.contains(&left_with)).then_some(header)
 }

@@ -7,6 +7,12 @@
 //! packet through. The answers are computed by code that is proved; what
 //! stands here makes the calls and reads their words.
 //!
+//! Of the entries that match a packet, any of the highest priority may take it,
+//! chosen afresh at each hop. 'Isolated' holds whatever is chosen; a verdict
+//! that is reached and each find of a list show one choice; a run goes on only
+//! where there is none to make. [`Fabric::hops`] says where a way has others,
+//! and [`Fabric::ties`] where a fabric leaves a choice at all.
+//!
 //! No function here panics, whatever bytes it is given. A thread that makes a
 //! call needs [`limits::STACK_BYTES`] of stack at least.
 
@@ -17,6 +23,7 @@ mod calls;
 #[doc(hidden)]
 pub mod command;
 mod digest;
+mod equals;
 mod explain;
 mod fabric;
 mod field;
@@ -32,7 +39,9 @@ pub mod raw;
 mod record;
 mod refusal;
 mod run;
+mod takers;
 pub mod text;
+mod ties;
 mod verdict;
 mod walks;
 mod words;
@@ -40,6 +49,7 @@ mod words;
 pub use calls::{accept, run};
 pub use calls::{list, list_growing, verdict};
 pub use digest::Digest;
+pub use equals::Equals;
 pub use fabric::Fabric;
 pub use field::{Field, MOST_FIELD_BITS};
 pub use finds::{Find, Finds};
@@ -50,4 +60,6 @@ pub use query::{Query, QUERY_NUMBERS, USUAL_BUDGET};
 pub use record::{Edge, Entry, Link, Unwritable};
 pub use refusal::{Place, Question, Refusal};
 pub use run::{Fate, Run};
+pub use takers::Hop;
+pub use ties::{Tie, MOST_PARTS};
 pub use verdict::Verdict;

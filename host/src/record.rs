@@ -41,7 +41,7 @@ pub struct Link {
 /// A flow entry.
 #[derive(Clone, Copy, Debug, PartialEq, Eq)]
 pub struct Entry<const N: usize = 4> {
-    /// Of the entries that match, the one with the highest takes the packet.
+    /// Of the entries that match, one with the highest takes the packet.
     pub priority: u16,
     /// Where it takes packets in.
     pub in_port: u16,
@@ -51,6 +51,19 @@ pub struct Entry<const N: usize = 4> {
     pub matching: HeaderSet<N>,
     /// What it writes; the care is the rewrite's mask.
     pub rewrite: HeaderSet<N>,
+}
+
+impl<const N: usize> Entry<N> {
+    /// Whether the other one never takes what both match: its priority at the
+    /// same in-port is lower. Where they stand in the file doesn't count.
+    pub fn beats(&self, other: &Entry<N>) -> bool {
+        self.in_port == other.in_port && self.priority > other.priority
+    }
+
+    /// Whether either may take what both match, if none beats them.
+    pub(crate) fn ranks_with(&self, other: &Entry<N>) -> bool {
+        self.in_port == other.in_port && self.priority == other.priority
+    }
 }
 
 #[derive(Clone, Copy, Debug, PartialEq, Eq)]

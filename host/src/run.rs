@@ -16,6 +16,10 @@ pub enum Fate {
     Lost,
     /// The limit's hops are made, and a link leads on to the run's port.
     Travelling,
+    /// Two or more entries of the highest priority at the run's port match, and
+    /// any of them may take it. That hop isn't made;
+    /// [`Fabric::takers`](crate::Fabric::takers) has those entries.
+    Tied,
 }
 
 /// One packet's way.
@@ -48,6 +52,7 @@ impl<const N: usize> Run<N> {
             1 => Fate::Dropped,
             2 => Fate::Lost,
             3 => Fate::Travelling,
+            4 => Fate::Tied,
             _ => return None,
         };
         let way = Way::read(way)?;

@@ -16,8 +16,8 @@
 //! port has at most one and is on at most one switch, and no two have the same.
 //! Names aren't in the fabric file: they are kept beside it.
 //!
-//! Entries are numbered from 0 as they stand; edges and links, whose order in a
-//! file is fixed, may stand anywhere.
+//! Entries are numbered from 0 as they stand; of equal priorities none comes
+//! first. Edges and links, whose order in a file is fixed, may stand anywhere.
 
 mod echo;
 mod line;

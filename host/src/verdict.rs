@@ -10,13 +10,15 @@ use crate::refusal::Refusal;
 #[derive(Clone, Copy, Debug, PartialEq, Eq)]
 #[non_exhaustive]
 pub enum Verdict<const N: usize = 4> {
-    /// No foreign packet arrives within the hop limit.
+    /// No foreign packet arrives within the hop limit, whichever entries of the
+    /// same priority take it.
     #[non_exhaustive]
     Isolated {
         /// Made until no entry or trial was left.
         units: u32,
     },
-    /// This foreign packet arrives.
+    /// This foreign packet arrives, by one choice among entries of the same
+    /// priority: [`Fabric::hops`] says where there are others.
     #[non_exhaustive]
     Reached {
         /// Made until it was found.
@@ -27,7 +29,7 @@ pub enum Verdict<const N: usize = 4> {
         hops: u32,
         /// Its header there.
         header: Header<N>,
-        /// The entries that take it.
+        /// The entries that take it by that choice.
         entries: Path,
     },
 }
@@ -59,8 +61,8 @@ impl<const N: usize> Verdict<N> {
 
     /// The headers of the find that a reached verdict's packet is of, on the
     /// fabric and by the query that it answers: they all start at its port and
-    /// take its way. They are traced back here anew, along that way alone, and
-    /// are not part of what is proved.
+    /// may take its way. They are traced back here anew, along that way alone,
+    /// and are not part of what is proved.
     pub fn find(&self, fabric: &Fabric<N>, query: &Query<N>) -> Option<HeaderSet<N>> {
         let Verdict::Reached {
             header, entries, ..
@@ -68,19 +70,13 @@ impl<const N: usize> Verdict<N> {
         else {
             return None;
         };
-        let mut hops = Vec::new();
-        let mut here = *header;
-        for &number in entries.iter() {
-            let entry = fabric.entries.get(usize::from(number))?;
-            hops.push((number, entry, here));
-            here = entry.rewrite.rewritten(&here);
-        }
         let mut set = query.asked;
-        for (number, entry, here) in hops.into_iter().rev() {
-            set = set.undone(&entry.rewrite)?.intersection(&entry.matching)?;
-            for beater in fabric.beaters(number) {
+        for hop in fabric.hops(header, entries)?.iter().rev() {
+            let undone = set.undone(&hop.entry.rewrite)?;
+            set = undone.intersection(&hop.entry.matching)?;
+            for beater in fabric.beaters(&hop.entry) {
                 let mut parts = set.carved(&beater.matching);
-                set = parts.find(|part| part.contains(&here))?;
+                set = parts.find(|part| part.contains(&hop.header))?;
             }
         }
         Some(set)

@@ -8,7 +8,7 @@ use std::cell::Cell;
 use common::to_host;
 use mwishovala::frame::{instead, misfits, sendable_in};
 use mwishovala::{list_growing, run, text, verdict};
-use mwishovala::{Fabric, Fate, Field, Find, Header, HeaderSet, Query, Verdict};
+use mwishovala::{Entry, Fabric, Fate, Field, Find, Header, HeaderSet, Query, Verdict};
 use reference::file::write;
 use reference::random::{any, cases, query, Rng};
 
@@ -139,11 +139,34 @@ fn headers_of(set: &HeaderSet) -> Vec<Header> {
     (0..1 << wild.len()).map(with).collect()
 }
 
+/// Where a packet leaves by this way, and with which header, if every entry on it
+/// may take the packet: it matches, and none of a higher priority does.
+fn followed(fabric: &Fabric, port: u16, header: Header, way: &[u16]) -> Option<(u16, Header)> {
+    let (mut port, mut header) = (port, header);
+    for &number in way {
+        let entry = &fabric.entries[usize::from(number)];
+        let here = |other: &&Entry| other.in_port == port && other.matching.contains(&header);
+        let highest = fabric.entries.iter().filter(here).map(|e| e.priority).max();
+        if !here(&entry) || Some(entry.priority) != highest {
+            return None;
+        }
+        let (mask, written) = (entry.rewrite.care, entry.rewrite.value);
+        header = Header(std::array::from_fn(|word| {
+            header.0[word] & !mask[word] | written[word]
+        }));
+        port = fabric
+            .link_from(entry.out_port)
+            .map_or(entry.out_port, |link| link.to);
+    }
+    Some((port, header))
+}
+
 /// The find of a verdict's packet is the list's, and what can be sent of it
-/// arrives by the same way and is foreign.
+/// may take the same way to the target and is foreign. The run of it goes the
+/// same way as far as there is no choice.
 #[test]
 fn finds_and_what_to_send_instead() {
-    let sent = Cell::new(0);
+    let (sent, tied) = (Cell::new(0), Cell::new(0));
     cases(12_600_000, 4000, |rng| {
         let made = any(rng);
         let file = write(&made);
@@ -171,9 +194,17 @@ fn finds_and_what_to_send_instead() {
         }
         if let Some(header) = instead(&file, &asked, &reached) {
             assert!(set.contains(&header) && is_sendable(&header));
+            let (exit, left_with) = followed(&fabric, port, header, &entries).unwrap();
+            assert!(u32::from(exit) == asked.port && asked.asked.contains(&left_with));
             let way = run(&file, port.into(), header, asked.hops).unwrap();
-            assert_eq!((way.fate, u32::from(way.port)), (Fate::Left, asked.port));
-            assert_eq!(way.entries, entries);
+            match way.fate {
+                Fate::Tied => {
+                    assert!(way.entries.len() < entries.len());
+                    assert!(entries.starts_with(&way.entries));
+                    tied.set(tied.get() + 1);
+                }
+                _ => assert_eq!((way.fate, way.entries), (Fate::Left, entries)),
+            }
             let (edge, target) = (fabric.edge(port).unwrap(), asked.port as u16);
             let own = edge.group == fabric.edge(target).unwrap().group;
             assert!(!own || !edge.admitted.contains(&header));
@@ -181,7 +212,7 @@ fn finds_and_what_to_send_instead() {
         }
     });
     let replayed = std::env::var_os("SEED").is_some();
-    assert!(replayed || sent.get() > 200, "{}", sent.get());
+    assert!(replayed || sent.get() > 200 && tied.get() > 20);
 }
 
 /// In its own group a packet has to be outside what is admitted; where all that
@@ -205,6 +236,34 @@ fn own_groups_packets() {
     );
     assert_eq!(of("nw_tos=0x00/0x01"), None);
     assert_eq!(instead(&[], &Query::all_wild(2), &isolated()), None);
+}
+
+/// By a tie, where the run of it stops.
+#[test]
+fn what_to_send_where_entries_tie() {
+    let asked = Query::all_wild(2);
+    let packed = |said: &str| {
+        let edges = "edge 1 group 9 admits any\nedge 2 group 7 admits any\n";
+        text::pack(&format!("{edges}{said}")).unwrap()
+    };
+    let tied = packed(
+        "entry 1 -> 2 priority 5 match nw_dst=10.7.0.2\n\
+         entry 1 -> drop priority 5 match any\n",
+    );
+    let reached = verdict(&tied, &asked).unwrap();
+    let header = instead(&tied, &asked, &reached).expect("it may take the way");
+    assert!(is_sendable(&header));
+    assert_eq!(run(&tied, 1, header, 16).unwrap().fate, Fate::Tied);
+    // In these fabrics no packet can take that verdict's way to the target: its
+    // entry takes in elsewhere, sends out elsewhere, or is beaten.
+    for other in [
+        "entry 3 -> 2 priority 5 match nw_dst=10.7.0.2\n",
+        "entry 1 -> 3 priority 5 match nw_dst=10.7.0.2\n",
+        "entry 1 -> 2 priority 5 match nw_dst=10.7.0.2\n\
+         entry 1 -> drop priority 6 match any\n",
+    ] {
+        assert_eq!(instead(&packed(other), &asked, &reached), None, "{other}");
+    }
 }
 
 fn isolated() -> Verdict {

@@ -35,15 +35,20 @@ fn examples(page: &str) -> Vec<(Vec<&str>, Value)> {
     examples.collect()
 }
 
+/// The page's fabrics, in order.
+const FABRICS: [&str; 2] = ["volumes", "tied"];
+
 #[test]
 fn the_pages_examples_are_what_is_printed() {
     let page = page();
     let folder = folder("json-page");
-    let [fabric] = fenced(&page, "text")[..] else {
-        panic!("the page has one fabric");
-    };
-    fs::write(folder.join("volumes.txt"), format!("{fabric}\n")).unwrap();
-    assert_eq!(ran(&folder, "pack volumes.txt volumes.fabric").status, 0);
+    let fabrics = fenced(&page, "text");
+    assert_eq!(fabrics.len(), FABRICS.len());
+    for (name, fabric) in FABRICS.iter().zip(fabrics) {
+        fs::write(folder.join("text"), format!("{fabric}\n")).unwrap();
+        assert_eq!(ran(&folder, &format!("pack text {name}.fabric")).status, 0);
+        assert!(page.contains(&format!("packed as `{name}.fabric`")));
+    }
     let examples = examples(&page);
     for (typed, expected) in &examples {
         let ran = mwishovala(&folder, typed, &[]);

@@ -102,12 +102,13 @@ fn a_packet_that_can_be_sent_stands_alone() {
     assert_eq!(answer.get("misfits"), Some(&Value::List(vec![])));
 }
 
-/// Whatever the fabric, the packet that can be sent gets out at the target.
+/// Whatever the fabric, the packet that can be sent gets out at the target; or
+/// its run stops at the first hop where others might take it, as is said.
 #[test]
 fn what_can_be_sent_arrives() {
     let folder = folder("sent");
-    let sent = Cell::new(0);
-    cases(9_400_000, 150, |rng| {
+    let (sent, stopped) = (Cell::new(0), Cell::new(0));
+    cases(9_400_000, 300, |rng| {
         let fabric = any(rng);
         fs::write(folder.join("fabric"), write(&fabric)).unwrap();
         let port = rng.pick(&fabric.edges).map_or(1, |edge| edge.port);
@@ -122,16 +123,56 @@ fn what_can_be_sent_arrives() {
             let start = answer.get("port").and_then(Value::number).unwrap();
             let line = format!("run fabric {start} {} --json", in_words(header));
             let run = answered(&folder, &line);
-            assert_eq!(run.get("fate").and_then(Value::text), Some("left"));
-            assert_eq!(run.get("port"), Some(&Value::Number(port.into())));
-            sent.set(sent.get() + 1);
+            let fate = run.get("fate").and_then(Value::text);
+            let equals = answer.get("sendable_equals").and_then(Value::list).unwrap();
+            let choice = equals.iter().position(|at| *at != Value::List(vec![]));
+            match choice {
+                Some(hop) => {
+                    assert_eq!(fate, Some("tied"));
+                    assert_eq!(run.get("hops"), Some(&Value::Number(hop as u64)));
+                    stopped.set(stopped.get() + 1);
+                }
+                None => {
+                    assert_eq!(fate, Some("left"));
+                    assert_eq!(run.get("port"), Some(&Value::Number(port.into())));
+                    sent.set(sent.get() + 1);
+                }
+            }
+        } else if answer.get("header").is_some() {
+            assert_eq!(answer.get("sendable_equals"), Some(&Value::Null));
         }
     });
     // A replayed case is one alone.
-    assert!(
-        std::env::var_os("SEED").is_some() || sent.get() > 20,
-        "{sent:?}"
+    let replayed = std::env::var_os("SEED").is_some();
+    assert!(replayed || sent.get() > 20 && stopped.get() > 5);
+}
+
+/// The packet that can be sent may meet others than the verdict's does.
+#[test]
+fn who_else_might_take_what_can_be_sent() {
+    let folder = with(
+        "others-instead",
+        &format!(
+            "{EDGES}entry 1 -> 2 priority 1 match nw_dst=10.0.0.2\n\
+             entry 1 -> drop priority 1 match nw_proto=tcp\n\
+             entry 1 -> drop priority 1 match dl_vlan=65535\n"
+        ),
     );
+    let text = ran(&folder, "verdict fabric 2");
+    let text = text.text();
+    assert!(text.contains("\nand takes this way\n"));
+    assert!(text.contains("\n    entry 0, priority 1\n"));
+    assert!(text.contains(
+        "  dl_vlan   65535\n  nw_tos    0\n  nw_proto  6\n  \
+         at hop 1, entries 1 and 2 of the same priority might take it too\n\nasked\n"
+    ));
+    let answer = answered(&folder, "verdict fabric 2 --json");
+    let numbers =
+        |numbers: &[u64]| Value::List(numbers.iter().map(|&n| Value::Number(n)).collect());
+    let told = Value::List(vec![numbers(&[1, 2])]);
+    assert_eq!(answer.get("sendable_equals"), Some(&told));
+    let path = answer.get("path").and_then(Value::list).unwrap();
+    assert_eq!(path[0].get("equals"), Some(&numbers(&[])));
 }
 
 /// 17 switches in a row: one hop more than the largest limit.

@@ -5,7 +5,7 @@ use crate::limits::MOST_HOPS;
 use crate::query::Query;
 use crate::raw;
 use crate::refusal::{Question, Refusal};
-use crate::run::Run;
+use crate::run::{Fate, Run};
 use crate::verdict::Verdict;
 
 const SUCCESS: u64 = 24 * 256;
@@ -93,10 +93,26 @@ fn words_that_are_no_verdict() {
 fn words_that_are_no_run() {
     let read = Run::<4>::read;
     assert!(read(&TWO_HOPS).is_ok());
-    for (place, word) in wrong_words().into_iter().chain([(0, 4), (1, 1)]) {
+    for (place, word) in wrong_words().into_iter().chain([(0, 5), (0, 260), (1, 1)]) {
         let mut words = TWO_HOPS;
         words[place] = word;
         assert!(read(&words).is_err(), "word {place} is {word}");
+    }
+}
+
+#[test]
+fn each_fate_has_its_number() {
+    let fates = [
+        Fate::Left,
+        Fate::Dropped,
+        Fate::Lost,
+        Fate::Travelling,
+        Fate::Tied,
+    ];
+    for (number, fate) in (0..).zip(fates) {
+        let mut words = TWO_HOPS;
+        words[0] = number;
+        assert_eq!(Run::<4>::read(&words).unwrap().fate, fate, "{number}");
     }
 }
 

@@ -7,7 +7,8 @@ use crate::raw;
 use crate::refusal::{Question, Refusal};
 use crate::verdict::Verdict;
 
-/// Is the target isolated: can no foreign packet get out there?
+/// Is the target isolated: can no foreign packet get out there, whichever entries
+/// of the same priority take it?
 ///
 /// ```
 /// use mwishovala::{text, verdict, Query, Verdict};
@@ -33,7 +34,8 @@ pub fn verdict(file: &[u8], query: &Query) -> Result<Verdict, Refusal> {
     Verdict::read(&words)
 }
 
-/// Every header that arrives at the target, as finds in the area lent.
+/// Every header that arrives at the target under some choice among entries of the
+/// same priority, as finds in the area lent.
 ///
 /// ```
 /// use mwishovala::{list, text, Query};

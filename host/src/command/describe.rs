@@ -6,6 +6,7 @@ use super::loaded::Loaded;
 use crate::field::Field;
 use crate::header::{Header, HeaderSet};
 use crate::record::Entry;
+use crate::takers::Hop;
 
 /// A line for each field.
 pub(super) fn packet(header: &Header) -> String {
@@ -16,18 +17,16 @@ pub(super) fn packet(header: &Header) -> String {
     text
 }
 
-/// Hop by hop, each entry with its ports, match and rewrite.
-pub(super) fn path(loaded: &Loaded, entries: &[u16]) -> String {
-    let mut text = String::new();
-    for (hop, &number) in entries.iter().enumerate() {
-        if let Some(entry) = loaded.fabric.entries.get(usize::from(number)) {
-            text += &one_hop(loaded, hop + 1, number, entry);
-        }
-    }
-    text
+/// Hop by hop, each entry with its ports, match and rewrite, and which others
+/// might have taken the packet.
+pub(super) fn path(loaded: &Loaded, way: &[Hop]) -> String {
+    let hops = way.iter().zip(1..);
+    hops.map(|(hop, place)| one_hop(loaded, place, hop))
+        .collect()
 }
 
-fn one_hop(loaded: &Loaded, hop: usize, number: u16, entry: &Entry) -> String {
+fn one_hop(loaded: &Loaded, place: usize, hop: &Hop) -> String {
+    let entry = &hop.entry;
     let (in_port, out_port) = (loaded.port(entry.in_port), loaded.port(entry.out_port));
     let onward = match (entry.out_port, loaded.fabric.link_from(entry.out_port)) {
         (0, _) => "dropped".into(),
@@ -37,15 +36,55 @@ fn one_hop(loaded: &Loaded, hop: usize, number: u16, entry: &Entry) -> String {
         }
         (_, None) => format!("out at port {out_port}, leaving the fabric"),
     };
+    let too = match others(hop) {
+        Some(others) => format!("; {others}"),
+        None => String::new(),
+    };
     format!(
-        "  hop {hop}: in at port {in_port}, {onward}\n    \
-         entry {number}, priority {}\n    \
+        "  hop {place}: in at port {in_port}, {onward}\n    \
+         entry {}, priority {}{too}\n    \
          match   {}\n    \
          rewrite {}\n",
+        hop.number,
         entry.priority,
         entry.matching,
         rewrite(entry),
     )
+}
+
+/// Who else might take a packet at this hop.
+pub(super) fn others(hop: &Hop) -> Option<String> {
+    match &hop.equals()[..] {
+        [] => None,
+        equals => Some(format!(
+            "{} of the same priority might take it too",
+            entries(equals)
+        )),
+    }
+}
+
+/// 'entry 7', or 'entries 4, 7 and 9'.
+pub(super) fn entries(numbers: &[u16]) -> String {
+    match numbers {
+        [one] => format!("entry {one}"),
+        _ => format!("entries {}", and(numbers)),
+    }
+}
+
+/// After an entry, the others that might take the packet too: ' (or 4, 7)'.
+pub(super) fn or(numbers: &[u16]) -> String {
+    match numbers {
+        [] => String::new(),
+        _ => format!(" (or {})", listed(numbers)),
+    }
+}
+
+/// '4, 7 and 9'.
+pub(super) fn and(numbers: &[u16]) -> String {
+    match numbers {
+        [many @ .., last] if !many.is_empty() => format!("{} and {last}", listed(many)),
+        _ => listed(numbers),
+    }
 }
 
 pub(super) fn rewrite(entry: &Entry) -> String {

@@ -7,6 +7,7 @@ use std::fmt::Write;
 
 use super::arguments::Picture;
 use super::inquiry::{Asked, Inquiry};
+use super::judged::way;
 use super::loaded::Loaded;
 use super::manual::VERSION;
 use super::{describe, threads, Failure, Output, DONE};
@@ -14,6 +15,7 @@ use crate::calls::verdict;
 use crate::header::HeaderSet;
 use crate::query::Query;
 use crate::record::Entry;
+use crate::takers::Hop;
 use crate::verdict::Verdict;
 use switches::switches;
 
@@ -31,7 +33,7 @@ struct Marks {
     /// What the target is, in words, and how it is drawn.
     judged: String,
     style: &'static str,
-    way: Vec<u16>,
+    way: Vec<Hop>,
 }
 
 pub(super) fn dot(picture: &Picture, out: Output) -> Result<u8, Failure> {
@@ -65,11 +67,14 @@ fn judge(inquiry: &Inquiry, query: &Query) -> Result<Marks, Failure> {
             style: SAFE,
             way: Vec::new(),
         },
-        Verdict::Reached { entries, .. } => Marks {
+        Verdict::Reached {
+            header, entries, ..
+        } => Marks {
             target,
             judged: "reached".into(),
             style: MARKED,
-            way: entries.to_vec(),
+            way: way(&inquiry.loaded.fabric, &header, &entries)
+                .map_err(|refusal| inquiry.refused(refusal))?,
         },
     })
 }
@@ -95,7 +100,7 @@ fn draw(loaded: &Loaded, marks: Option<&Marks>) -> String {
     }
     let way = marks.map_or(&[][..], |marks| &marks.way);
     text += &links(loaded, way);
-    text += &marked(loaded, way);
+    text += &marked(way);
     text += &others(loaded, way);
     text + "}\n"
 }
@@ -115,10 +120,8 @@ fn node(loaded: &Loaded, marks: Option<&Marks>, port: u16) -> String {
     }
 }
 
-fn links(loaded: &Loaded, way: &[u16]) -> String {
-    let entries = &loaded.fabric.entries;
-    let out_port = |&number: &u16| Some(entries.get(usize::from(number))?.out_port);
-    let used: Vec<u16> = way.iter().filter_map(out_port).collect();
+fn links(loaded: &Loaded, way: &[Hop]) -> String {
+    let used: Vec<u16> = way.iter().map(|hop| hop.entry.out_port).collect();
     let mut text = String::new();
     for link in &loaded.fabric.links {
         let mark = match used.contains(&link.from) {
@@ -130,28 +133,27 @@ fn links(loaded: &Loaded, way: &[u16]) -> String {
     text
 }
 
-/// The way's entries, an arrow for each hop.
-fn marked(loaded: &Loaded, way: &[u16]) -> String {
+/// The way's entries, an arrow for each hop, with the others that might have
+/// taken the packet.
+fn marked(way: &[Hop]) -> String {
     let mut text = String::new();
-    for (hop, &number) in way.iter().enumerate() {
-        if let Some(entry) = loaded.fabric.entries.get(usize::from(number)) {
-            let (in_port, out_port) = (entry.in_port, entry.out_port);
-            let label = format!("hop {}: entry {}", hop + 1, named(number, entry));
-            let _ = writeln!(
-                text,
-                "  {in_port} -> {out_port} [label=\"{label}\" {MARKED}];"
-            );
-        }
+    for (hop, place) in way.iter().zip(1..) {
+        let (in_port, out_port) = (hop.entry.in_port, hop.entry.out_port);
+        let entry = named(hop.number, &hop.entry) + &describe::or(&hop.equals());
+        let _ = writeln!(
+            text,
+            "  {in_port} -> {out_port} [label=\"hop {place}: entry {entry}\" {MARKED}];"
+        );
     }
     text
 }
 
 /// The other entries, an arrow for all that have the same ports. A drop's arrow
 /// goes to a point of its in-port's own.
-fn others(loaded: &Loaded, way: &[u16]) -> String {
+fn others(loaded: &Loaded, way: &[Hop]) -> String {
     let mut arrows: BTreeMap<(u16, u16), Vec<String>> = BTreeMap::new();
-    for (number, entry) in (0..).zip(&loaded.fabric.entries) {
-        if !way.contains(&number) {
+    for (number, entry) in loaded.fabric.numbered() {
+        if way.iter().all(|hop| hop.number != number) {
             let ports = (entry.in_port, entry.out_port);
             arrows.entry(ports).or_default().push(named(number, entry));
         }

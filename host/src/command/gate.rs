@@ -4,10 +4,11 @@ use std::io::{self, Write};
 
 use super::arguments::Gate;
 use super::inquiry::{Asked, Inquiry};
-use super::judged::leads_further;
-use super::{threads, Failure, Output, ISOLATED, REACHED};
+use super::judged::{leads_further, way};
+use super::{describe, threads, Failure, Output, ISOLATED, REACHED};
 use crate::calls::verdict;
 use crate::query::Query;
+use crate::takers::Hop;
 use crate::verdict::Verdict;
 
 /// The question is fixed but for the target: every header, and all hops.
@@ -34,12 +35,34 @@ pub(super) fn gate(gate: &Gate, out: Output) -> Result<u8, Failure> {
             )?;
             Ok(ISOLATED)
         }
-        Verdict::Reached { port, .. } => {
+        Verdict::Reached {
+            port,
+            header,
+            entries,
+            ..
+        } => {
+            let way = way(&loaded.fabric, &header, &entries);
+            let chosen = chosen(&way.map_err(|refusal| inquiry.refused(refusal))?);
             writeln!(
                 out,
-                "reached: port {target}, from port {port}, sha256 {digest}; verdict has the packet"
+                "reached: port {target}, from port {port}{chosen}, sha256 {digest}; \
+                 verdict has the packet"
             )?;
             Ok(REACHED)
         }
+    }
+}
+
+/// At which hops other entries of the same priority might take the packet.
+fn chosen(way: &[Hop]) -> String {
+    let hops = way.iter().zip(1..);
+    let hops: Vec<u16> = hops
+        .filter(|(hop, _)| !hop.equals().is_empty())
+        .map(|(_, place)| place)
+        .collect();
+    match hops[..] {
+        [] => String::new(),
+        [hop] => format!(", by a choice among equals at hop {hop}"),
+        _ => format!(", by choices among equals at hops {}", describe::and(&hops)),
     }
 }

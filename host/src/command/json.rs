@@ -6,10 +6,10 @@ use super::describe::rewrite;
 use super::inquiry::advice;
 use super::manual::VERSION;
 use super::Output;
-use crate::fabric::Fabric;
 use crate::field::Field;
 use crate::header::{Header, HeaderSet};
 use crate::refusal::Refusal;
+use crate::takers::Hop;
 
 /// A JSON value.
 pub(super) enum Json {
@@ -149,20 +149,25 @@ fn fields(set: &HeaderSet) -> Json {
     Json::Object(cared_for.map(part).collect())
 }
 
-/// Entries by their numbers, with what they say.
-pub(super) fn path(fabric: &Fabric, entries: &[u16]) -> Json {
-    list(entries.iter().map(|&number_of| {
-        let mut members = vec![("entry", number(number_of))];
-        if let Some(entry) = fabric.entries.get(usize::from(number_of)) {
-            members.extend([
-                ("in_port", number(entry.in_port)),
-                ("out_port", number(entry.out_port)),
-                ("priority", number(entry.priority)),
-                ("match", set(&entry.matching)),
-                ("rewrite", in_words(&entry.rewrite, &rewrite(entry))),
-            ]);
-        }
-        Json::Object(members)
+/// Ports, or entries by their numbers.
+pub(super) fn numbers(values: &[u16]) -> Json {
+    list(values.iter().map(|&value| number(value)))
+}
+
+/// Entries by their numbers, with what they say, and which others might have
+/// taken the packet.
+pub(super) fn path(way: &[Hop]) -> Json {
+    list(way.iter().map(|hop| {
+        let entry = &hop.entry;
+        Json::Object(vec![
+            ("entry", number(hop.number)),
+            ("in_port", number(entry.in_port)),
+            ("out_port", number(entry.out_port)),
+            ("priority", number(entry.priority)),
+            ("match", set(&entry.matching)),
+            ("rewrite", in_words(&entry.rewrite, &rewrite(entry))),
+            ("equals", numbers(&hop.equals())),
+        ])
     }))
 }
 

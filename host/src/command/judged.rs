@@ -9,38 +9,53 @@ use crate::frame::{instead, misfits, Misfit};
 use crate::header::Header;
 use crate::query::Query;
 use crate::refusal::Refusal;
+use crate::takers::Hop;
 use crate::verdict::Verdict;
 
 pub(super) struct Judged {
     pub(super) verdict: Verdict,
-    /// Why no host sends the packet that the verdict names.
+    /// The way of the packet that the verdict names.
+    pub(super) way: Vec<Hop>,
+    /// Why no host sends that packet.
     pub(super) misfits: Vec<Misfit>,
-    /// One of the same find that a host can send.
-    pub(super) sendable: Option<Header>,
+    /// One of the same find that a host can send, by the same way.
+    pub(super) sendable: Option<Sendable>,
     /// Whether links could lead to the target in more hops than were asked about.
     pub(super) further: bool,
 }
 
+/// A packet that a host can send. Others might take it than take the verdict's.
+pub(super) struct Sendable {
+    pub(super) header: Header,
+    pub(super) way: Vec<Hop>,
+}
+
 impl Judged {
     pub(super) fn of(loaded: &Loaded, query: &Query) -> Result<Judged, Refusal> {
-        let verdict = calls::verdict(&loaded.bytes, query)?;
-        let (misfits, sendable) = match &verdict {
-            Verdict::Isolated { .. } => (Vec::new(), None),
-            Verdict::Reached { header, .. } => {
-                let misfits = misfits(header);
-                let sendable = match misfits.is_empty() {
-                    true => Some(*header),
-                    false => instead(&loaded.bytes, query, &verdict),
-                };
-                (misfits, sendable)
-            }
+        let fabric = &loaded.fabric;
+        let mut judged = Judged {
+            verdict: calls::verdict(&loaded.bytes, query)?,
+            way: Vec::new(),
+            misfits: Vec::new(),
+            sendable: None,
+            further: leads_further(fabric, query),
         };
-        Ok(Judged {
-            verdict,
-            misfits,
-            sendable,
-            further: leads_further(&loaded.fabric, query),
-        })
+        if let Verdict::Reached {
+            header, entries, ..
+        } = &judged.verdict
+        {
+            judged.way = way(fabric, header, entries)?;
+            judged.misfits = misfits(header);
+            let sendable = match judged.misfits.is_empty() {
+                true => Some(*header),
+                false => instead(&loaded.bytes, query, &judged.verdict),
+            };
+            judged.sendable = sendable.and_then(|header| {
+                let way = fabric.hops(&header, entries)?;
+                Some(Sendable { header, way })
+            });
+        }
+        Ok(judged)
     }
 
     pub(super) fn is_reached(&self) -> bool {
@@ -48,7 +63,7 @@ impl Judged {
     }
 
     /// Its part of an answer, of one target or of a row.
-    pub(super) fn in_json(&self, fabric: &Fabric) -> Members {
+    pub(super) fn in_json(&self) -> Members {
         let further = ("further", Json::Truth(self.further));
         match &self.verdict {
             Verdict::Isolated { units } => vec![
@@ -61,23 +76,37 @@ impl Judged {
                 port,
                 hops,
                 header,
-                entries,
-            } => vec![
-                ("verdict", json::text("reached")),
-                ("units", json::number(*units)),
-                further,
-                ("port", json::number(*port)),
-                ("hops", json::number(*hops)),
-                ("header", json::header(header)),
-                ("misfits", json::list(self.misfits.iter().map(json::text))),
-                (
-                    "sendable",
-                    self.sendable.as_ref().map_or(Json::Null, json::header),
-                ),
-                ("path", json::path(fabric, entries)),
-            ],
+                ..
+            } => {
+                let sendable = self.sendable.as_ref();
+                let equals = |sendable: &Sendable| {
+                    let hops = sendable.way.iter();
+                    json::list(hops.map(|hop| json::numbers(&hop.equals())))
+                };
+                vec![
+                    ("verdict", json::text("reached")),
+                    ("units", json::number(*units)),
+                    further,
+                    ("port", json::number(*port)),
+                    ("hops", json::number(*hops)),
+                    ("header", json::header(header)),
+                    ("misfits", json::list(self.misfits.iter().map(json::text))),
+                    (
+                        "sendable",
+                        sendable.map_or(Json::Null, |sendable| json::header(&sendable.header)),
+                    ),
+                    ("sendable_equals", sendable.map_or(Json::Null, equals)),
+                    ("path", json::path(&self.way)),
+                ]
+            }
         }
     }
+}
+
+/// The way that the library says; where it says an entry that the file doesn't
+/// have, it is none that this host knows.
+pub(super) fn way(fabric: &Fabric, header: &Header, entries: &[u16]) -> Result<Vec<Hop>, Refusal> {
+    fabric.hops(header, entries).ok_or_else(Refusal::unknown)
 }
 
 /// Whether links could lead to the query's target in more hops than it asks

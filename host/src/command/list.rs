@@ -12,6 +12,7 @@ use super::loaded::Loaded;
 use super::table::table;
 use super::{describe, threads, Failure, Output, DONE};
 use crate::calls::list_growing;
+use crate::equals::Equals;
 use crate::finds::{Find, Finds};
 use crate::query::Query;
 
@@ -40,11 +41,22 @@ fn in_words(out: Output, inquiry: &Inquiry, target: u32, finds: Finds) -> io::Re
         count => {
             let count = describe::counted(count, "find", "finds");
             writeln!(out, "{count} at port {port}{only}\n")?;
-            table(out, HEADING, finds.map(|find| row(loaded, target, &find)))?;
+            let equals = Equals::of(&loaded.fabric);
+            let rows = finds
+                .clone()
+                .map(|find| row(loaded, target, &equals, &find));
+            table(out, HEADING, rows)?;
+            let has_choice = |find: Find| equals.along(&find).iter().any(|at| !at.is_empty());
+            if finds.clone().any(has_choice) {
+                writeln!(out, "\n{OR}")?;
+            }
         }
     }
     inquiry.in_words(out)
 }
+
+/// What stands behind an entry after 'or'.
+const OR: &str = "or: of the same priority, and might take these packets too, or some of them";
 
 const HEADING: [&str; 6] = ["from", "group", "whose", "hops", "entries", "headers"];
 
@@ -55,7 +67,9 @@ fn whose(loaded: &Loaded, target: u32, find: &Find) -> Option<(u16, Share)> {
     Some((edge.group, Share::of(find, edge, target)))
 }
 
-fn row(loaded: &Loaded, target: u32, find: &Find) -> [String; 6] {
+fn row(loaded: &Loaded, target: u32, equals: &Equals, find: &Find) -> [String; 6] {
+    let entries = find.entries.iter().zip(equals.along(find));
+    let entries = entries.map(|(entry, equals)| format!("{entry}{}", describe::or(&equals)));
     let (group, share) = match whose(loaded, target, find) {
         Some((group, share)) => (group.to_string(), share.name()),
         None => ("-".into(), "-"),
@@ -65,7 +79,7 @@ fn row(loaded: &Loaded, target: u32, find: &Find) -> [String; 6] {
         group,
         share.into(),
         find.hops.to_string(),
-        describe::listed(&find.entries[..]),
+        describe::listed(entries),
         find.set.to_string(),
     ]
 }
@@ -79,15 +93,16 @@ fn in_json(out: Output, inquiry: &Inquiry, query: &Query, finds: Finds) -> io::R
         write!(out, "{}:{value},", json::text(name))?;
     }
     out.write_all(b"\"finds\":[")?;
+    let equals = Equals::of(&inquiry.loaded.fabric);
     for (place, find) in finds.enumerate() {
-        let find = find_in_json(inquiry.loaded, query.port, &find);
+        let find = find_in_json(inquiry.loaded, query.port, &equals, &find);
         write!(out, "{}{find}", json::comma(place))?;
     }
     out.write_all(b"]}\n")
 }
 
-fn find_in_json(loaded: &Loaded, target: u32, find: &Find) -> Json {
-    let entries = find.entries.iter().map(|&entry| json::number(entry));
+fn find_in_json(loaded: &Loaded, target: u32, equals: &Equals, find: &Find) -> Json {
+    let equals = equals.along(find).into_iter();
     let mut members = vec![("port", json::number(find.port))];
     if let Some((group, share)) = whose(loaded, target, find) {
         members.push(("group", json::number(group)));
@@ -95,7 +110,8 @@ fn find_in_json(loaded: &Loaded, target: u32, find: &Find) -> Json {
     }
     members.extend([
         ("hops", json::number(find.hops)),
-        ("entries", json::list(entries)),
+        ("entries", json::numbers(&find.entries)),
+        ("equals", json::list(equals.map(|at| json::numbers(&at)))),
         ("headers", json::set(&find.set)),
     ]);
     Json::Object(members)

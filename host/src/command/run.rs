@@ -3,10 +3,12 @@
 use super::arguments::Packet;
 use super::inquiry::{Asked, Inquiry};
 use super::json::{self, Members};
+use super::judged::way;
 use super::loaded::Loaded;
 use super::{describe, threads, Failure, Output, DONE};
 use crate::calls;
 use crate::run::{Fate, Run};
+use crate::takers::Hop;
 
 pub(super) fn run(packet: &Packet, out: Output) -> Result<u8, Failure> {
     let loaded = packet.file.load_named()?;
@@ -22,31 +24,42 @@ pub(super) fn run(packet: &Packet, out: Output) -> Result<u8, Failure> {
     );
     let run = threads::call(|| calls::run(&loaded.bytes, start, header, hops))?
         .map_err(|refusal| inquiry.refused(refusal))?;
+    let way = way(&loaded.fabric, &header, &run.entries);
+    let way = way.map_err(|refusal| inquiry.refused(refusal))?;
     if packet.json {
         let mut members = inquiry.in_json();
-        members.extend(in_json(&loaded, &run));
+        members.extend(in_json(&loaded, &run, &way));
         json::write(out, members)?;
     } else {
-        out.write_all(in_words(&loaded, &run).as_bytes())?;
+        out.write_all(in_words(&loaded, &run, &way).as_bytes())?;
         inquiry.in_words(out)?;
     }
     Ok(DONE)
 }
 
-fn in_words(loaded: &Loaded, run: &Run) -> String {
+/// The entries between which the run stopped, if that is why.
+fn tied(loaded: &Loaded, run: &Run) -> Vec<u16> {
+    match run.fate {
+        Fate::Tied => loaded.fabric.takers(run.port, &run.header),
+        _ => Vec::new(),
+    }
+}
+
+fn in_words(loaded: &Loaded, run: &Run, way: &[Hop]) -> String {
     let (port, hops) = (loaded.port(run.port), describe::hops(run.hops));
     let fate = match run.fate {
         Fate::Left => format!("left: the packet gets out at port {port} after {hops}"),
         Fate::Dropped => format!("dropped: at port {port}, with hop {}", run.hops),
         Fate::Lost => format!("lost: no entry takes it at port {port}, after {hops}"),
         Fate::Travelling => format!("still travelling: to port {port}, after {hops}"),
+        Fate::Tied => {
+            let tied = describe::entries(&tied(loaded, run));
+            format!("tied: {tied} of the same priority might take it at port {port}, after {hops}")
+        }
     };
     let way = match run.hops {
         0 => String::new(),
-        _ => format!(
-            "\nit took this way\n{}",
-            describe::path(loaded, &run.entries)
-        ),
+        _ => format!("\nit took this way\n{}", describe::path(loaded, way)),
     };
     format!(
         "{fate}\n\nits header then\n{}{way}",
@@ -54,18 +67,20 @@ fn in_words(loaded: &Loaded, run: &Run) -> String {
     )
 }
 
-fn in_json(loaded: &Loaded, run: &Run) -> Members {
+fn in_json(loaded: &Loaded, run: &Run, way: &[Hop]) -> Members {
     let fate = match run.fate {
         Fate::Left => "left",
         Fate::Dropped => "dropped",
         Fate::Lost => "lost",
         Fate::Travelling => "travelling",
+        Fate::Tied => "tied",
     };
     vec![
         ("fate", json::text(fate)),
         ("port", json::number(run.port)),
         ("hops", json::number(run.hops)),
         ("header", json::header(&run.header)),
-        ("path", json::path(&loaded.fabric, &run.entries)),
+        ("tied", json::numbers(&tied(loaded, run))),
+        ("path", json::path(way)),
     ]
 }

@@ -14,7 +14,7 @@ pub(super) fn verdict(trace: &Trace, out: Output) -> Result<u8, Failure> {
         .map_err(|refusal| inquiry.refused(refusal))?;
     if trace.json {
         let mut members = inquiry.in_json();
-        members.extend(judged.in_json(&loaded.fabric));
+        members.extend(judged.in_json());
         json::write(out, members)?;
     } else {
         out.write_all(in_words(&inquiry, &trace.query, &judged).as_bytes())?;
@@ -48,17 +48,21 @@ fn in_words(inquiry: &Inquiry, query: &Query, judged: &Judged) -> String {
             port,
             hops,
             header,
-            entries,
+            ..
         } => {
             let units = describe::units(*units);
             let hops = describe::hops(*hops);
+            let chosen = match judged.way.iter().all(|hop| hop.equals().is_empty()) {
+                true => "",
+                false => ", by one choice among entries of the same priority",
+            };
             format!(
                 "reached: a foreign packet gets out at port {target} after {hops} ({units})\n\n\
-                 it starts at port {}{}\n{}\nand takes this way\n{}{}",
+                 it starts at port {}{}\n{}\nand takes this way{chosen}\n{}{}",
                 loaded.port(*port),
                 why_foreign(inquiry, *port, query.port),
                 describe::packet(header),
-                describe::path(loaded, entries),
+                describe::path(loaded, &judged.way),
                 to_send(judged),
             )
         }
@@ -76,10 +80,15 @@ fn to_send(judged: &Judged) -> String {
         .map(|why| format!("  {why}\n"))
         .collect();
     let instead = match &judged.sendable {
-        Some(header) => format!(
-            "one that can, by the same way\n{}",
-            describe::packet(header)
-        ),
+        Some(sendable) => {
+            let hops = sendable.way.iter().zip(1..);
+            let others = hops.filter_map(|(hop, place)| Some((place, describe::others(hop)?)));
+            let others: String = others
+                .map(|(place, others)| format!("  at hop {place}, {others}\n"))
+                .collect();
+            let packet = describe::packet(&sendable.header);
+            format!("one that can, by the same way\n{packet}{others}")
+        }
         None => "none can that takes the same way\n".into(),
     };
     format!("\nno host sends this packet as it is\n{why}{instead}")

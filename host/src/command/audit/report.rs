@@ -7,7 +7,7 @@ use super::super::inquiry::{advice, Inquiry};
 use super::super::json::{self, Json};
 use super::super::loaded::Loaded;
 use super::super::table::table;
-use super::super::Output;
+use super::super::{ties, Output};
 use super::{Row, Senders};
 use crate::verdict::Verdict;
 
@@ -32,6 +32,10 @@ pub(super) fn in_words(inquiry: &Inquiry, rows: &[Row], out: Output) -> io::Resu
                 loaded.port(row.target.port)
             )?;
         }
+    }
+    let ties = ties::in_words(loaded);
+    if !ties.is_empty() {
+        writeln!(out, "\n{}", ties.join("\n"))?;
     }
     inquiry.in_words(out)
 }
@@ -73,20 +77,22 @@ fn cells(loaded: &Loaded, row: &Row) -> [String; 6] {
 }
 
 pub(super) fn in_json(inquiry: &Inquiry, rows: &[Row], out: Output) -> io::Result<()> {
-    let targets = rows.iter().map(|row| row_in_json(inquiry, row));
     let mut members = inquiry.in_json();
-    members.push(("targets", json::list(targets)));
+    members.extend([
+        ("targets", json::list(rows.iter().map(row_in_json))),
+        ("ties", ties::in_json(&inquiry.loaded.fabric)),
+    ]);
     json::write(out, members)
 }
 
 /// A row's verdict is as that of one target.
-fn row_in_json(inquiry: &Inquiry, row: &Row) -> Json {
+fn row_in_json(row: &Row) -> Json {
     let mut members = vec![
         ("target", json::number(row.target.port)),
         ("group", json::number(row.target.group)),
     ];
     match &row.judged {
-        Ok(judged) => members.extend(judged.in_json(&inquiry.loaded.fabric)),
+        Ok(judged) => members.extend(judged.in_json()),
         Err(refusal) => members.push(("refused", json::refused(refusal))),
     }
     let senders = match &row.senders {
@@ -98,9 +104,8 @@ fn row_in_json(inquiry: &Inquiry, row: &Row) -> Json {
 }
 
 fn senders_in_json(senders: &Senders) -> json::Members {
-    let ports = |ports: &[u16]| json::list(ports.iter().map(|&port| json::number(port)));
     vec![
-        ("foreign", ports(&senders.foreign)),
-        ("own", ports(&senders.own)),
+        ("foreign", json::numbers(&senders.foreign)),
+        ("own", json::numbers(&senders.own)),
     ]
 }
