@@ -21,6 +21,11 @@
  * byte is not said anywhere, and nothing of the proof holds for it.
  * Alignment: none is needed.
  *
+ * Equal priorities: of the entries at an in-port that match, any of the highest
+ * priority may take a packet, chosen afresh at each hop. 'Isolated' holds under
+ * every choice. 'Reached' and each find show one choice, so a packet run of the
+ * same header may stop with fate 4, which says that there is a choice to make.
+ *
  * The care and value words are the asked header set; for a run, the packet's
  * header, with every care bit set. A header has four words: nw_src; nw_dst;
  * tp_src (high 16 bits) and tp_dst; dl_vlan (high 16), nw_tos (8), nw_proto.
@@ -49,8 +54,8 @@ extern const char mwishovala_version[];
 #define FABRIC_NUMBER(code) ((unsigned)((code) % 256))
 #define FABRIC_PLACE(code) ((uint64_t)(code) / 256)
 
-/* Is the target isolated? 24 words: 0 isolated or 1 reached; units made; edge
- * port; hops; header (4); entries in travelling order (16). */
+/* Is the target isolated, under every choice? 24 words: 0 isolated or 1 reached;
+ * units made; edge port; hops; header (4); entries in travelling order (16). */
 uint64_t fabric_verdict(const uint8_t *file, size_t file_len,
                         uint8_t *area, size_t area_len,
                         uint32_t target, uint32_t limit, uint32_t budget,
@@ -59,7 +64,8 @@ uint64_t fabric_verdict(const uint8_t *file, size_t file_len,
 
 /* Every find in order: a word of kind 6 (bits 27..12 hops, 11..0 edge port); for
  * each entry in travelling order a word of kind 7 with its number below; care
- * (4); value (4). Kinds are in bits 31..28. */
+ * (4); value (4). Kinds are in bits 31..28. A header may stand in several finds,
+ * by different ways; each way of it stands in just one. */
 uint64_t fabric_list(const uint8_t *file, size_t file_len,
                      uint8_t *area, size_t area_len,
                      uint32_t target, uint32_t limit, uint32_t budget,
@@ -67,8 +73,9 @@ uint64_t fabric_list(const uint8_t *file, size_t file_len,
                      uint32_t value0, uint32_t value1, uint32_t value2, uint32_t value3);
 
 /* One packet's way. 24 words: fate (0 left, 1 dropped, 2 lost, 3 still
- * travelling); 0; port; hops; header then (4); entries taken (16). The budget is
- * unused. */
+ * travelling, 4 tied); 0; port; hops; header then (4); entries taken (16). Tied:
+ * two or more entries of the highest priority at the port match, also if they do
+ * the same; that hop isn't made. The budget is unused. */
 uint64_t fabric_run(const uint8_t *file, size_t file_len,
                     uint8_t *area, size_t area_len,
                     uint32_t start, uint32_t limit, uint32_t budget,

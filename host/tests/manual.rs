@@ -174,6 +174,20 @@ fn the_help_says_the_limits() {
     }
 }
 
+/// And what holds among equals, which isn't where they stand.
+#[test]
+fn the_help_says_who_takes_a_packet() {
+    let help = printed("--help").replace('\n', " ");
+    for said in [
+        "one of the highest priority takes the packet: any, if there are several, wherever",
+        "'isolated' holds under every choice, 'reached' shows one.",
+    ] {
+        assert!(help.contains(said), "{said}");
+    }
+    assert!(printed("help run").contains("It stops\nas 'tied' where two or more entries"));
+    assert!(!help.contains("of equals the first"));
+}
+
 /// No line is too long for a terminal.
 #[test]
 fn lines_are_short() {

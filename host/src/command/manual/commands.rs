@@ -65,6 +65,8 @@ pub(super) const ALL: &[Command] = &[
             "Says 'isolated', or 'reached' with a foreign packet that gets out at TARGET and \
              its way hop by hop. 'isolated:' begins the answer only if every IPv4 header and \
              16 hops were asked about; else it begins 'isolated, but only'.",
+            "Where other entries of the same priority might take the packet too, the way shown \
+             is one choice, and those entries stand beside the one that takes it.",
             "For a mount use gate, which can't be asked less.",
         ],
         statuses: &[
@@ -101,6 +103,9 @@ pub(super) const ALL: &[Command] = &[
             "Each line is a find: the edge port where its packets start, whose packets they \
              are, the entries that take them to TARGET in travelling order, and their headers \
              at the start.",
+            "Behind an entry stand others of the same priority that might take some of these \
+             packets too. By their choices a header may get to TARGET by several ways: each \
+             way stands in one find.",
         ],
         statuses: &[(0, "the list is whole; it says nothing of isolation")],
     },
@@ -123,7 +128,11 @@ pub(super) const ALL: &[Command] = &[
         ],
         settings: &[HOPS, JSON],
         summary: "where a packet goes that starts at START",
-        about: &["Says where the packet ends, with which header, and its way hop by hop."],
+        about: &[
+            "Says where the packet ends, with which header, and its way hop by hop. It stops as \
+             'tied' where two or more entries of the highest priority match, even if they do \
+             the same, and names them: any of them may take it.",
+        ],
         statuses: &[(0, "the packet's fate is told, whichever it is")],
     },
     Command {
@@ -133,6 +142,9 @@ pub(super) const ALL: &[Command] = &[
         summary: "the verdict on every edge port, and who reaches whom",
         about: &[
             "Asks for the verdict on each edge port as the target, and lists who sends there.",
+            "Below stand the ties that matter: two entries of the same in-port and priority, \
+             and a header that both match, but no entry of a higher priority there. They don't \
+             change the status: a verdict is under every choice.",
         ],
         statuses: &[
             (
@@ -147,7 +159,10 @@ pub(super) const ALL: &[Command] = &[
         operands: &[FABRIC],
         settings: &[],
         summary: "the fabric as text",
-        about: &["pack makes the same file of it again."],
+        about: &[
+            "pack makes the same file of it again. Ties that matter, as in an audit, stand at \
+             the end as remarks.",
+        ],
         statuses: DONE,
     },
     Command {
@@ -181,9 +196,9 @@ pub(super) const ALL: &[Command] = &[
         settings: &[ASKED, HOPS, BUDGET],
         summary: "the fabric as a Graphviz picture, with a verdict on TARGET",
         about: &[
-            "With TARGET, a foreign packet's way is marked in red, or TARGET in green if it \
-             is isolated. A fabric file names no switches: the boxes are guessed from the \
-             ports that entries join.",
+            "With TARGET, a foreign packet's way is marked in red, with the others of the same \
+             priority that might take it too, or TARGET in green if it is isolated. A fabric \
+             file names no switches: the boxes are guessed from the ports that entries join.",
         ],
         statuses: &[(0, "drawn, whatever the verdict")],
     },

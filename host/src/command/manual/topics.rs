@@ -23,7 +23,9 @@ pub(super) const COVERED: Topic = Topic {
 Answers are about IPv4 headers: nw_src, nw_dst, tp_src, tp_dst, dl_vlan, nw_tos
 and nw_proto. ARP, IPv6 and other frames are not told apart in version 1 of the
 file: 'isolated' says nothing of them. It holds for packets that make at most
-the hop limit's hops, and of the fabric that the file says.
+the hop limit's hops, and of the fabric that the file says. Where entries of the
+same priority match, a switch may choose any of them, at each hop anew:
+'isolated' holds under every choice, 'reached' shows one.
 ",
 };
 
@@ -49,10 +51,10 @@ A text has a line for each edge, link and entry, and # before a remark:
   name 12 storage-a
   switch leaf-1 1 10 12
 A switch reads tp_src and tp_dst only beside nw_proto. Of the entries at an in-
-port that match, the highest priority takes the packet; of equals the first.
-Ports are 1 to 4095. At most 64 edges, 256 links, 512 entries, 64 of them at one
-in-port. Names are said in answers; pack keeps them beside the file, in
-FABRIC.names.
+port that match, one of the highest priority takes the packet: any, if there are
+several, wherever they stand. Ports are 1 to 4095. At most 64 edges, 256 links,
+512 entries, 64 of them at one in-port. Names are said in answers; pack keeps
+them beside the file, in FABRIC.names.
 ",
 };
 
