@@ -45,6 +45,16 @@ fn a_volume_is_passed_on() {
 }
 
 #[test]
+fn two_controllers_have_one_priority() {
+    tell("two-controllers");
+}
+
+#[test]
+fn ties_that_do_no_harm() {
+    tell("harmless-ties");
+}
+
+#[test]
 fn beaters_attribute_by_attribute() {
     tell("trap-attributes");
 }
@@ -82,7 +92,7 @@ fn ports_have_a_protocol() {
             with_ports += u32::from(on_ports);
         }
     }
-    assert_eq!(with_ports, 11);
+    assert_eq!(with_ports, 14);
 }
 
 /// No story is left out above.
@@ -95,5 +105,5 @@ fn all_are_told() {
         path.extension()
             .is_some_and(|extension| extension == "session")
     });
-    assert_eq!(sessions.count(), 7);
+    assert_eq!(sessions.count(), 9);
 }
