@@ -16,8 +16,8 @@ pub enum Fate {
     Lost,
     /// The limit's hops are made, and a link leads on to the run's port.
     Travelling,
-    /// Two or more entries of the highest priority at the run's port match, and
-    /// any of them may take it. That hop isn't made;
+    /// Two or more entries of the highest priority match at the run's port, an
+    /// in-port, and any of them may take it. That hop isn't made;
     /// [`Fabric::takers`](crate::Fabric::takers) has those entries.
     Tied,
 }

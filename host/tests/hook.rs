@@ -10,6 +10,7 @@ use std::path::{Path, PathBuf};
 use std::process::{Command, Stdio};
 
 use command::{with_f, PROGRAM};
+use mwishovala::text::pack;
 
 const STATE: &str = r#"{"ociVersion":"1.0.2","id":"c1","status":"creating","pid":7,
     "bundle":"/bundle","annotations":{"mwishovala.volumes":"own"}}"#;
@@ -87,6 +88,31 @@ fn reached() {
             &state,
             "port 2: status 1: reached: port 2, from port 1",
         );
+    }
+}
+
+/// A container stays down if one choice among entries of the same priority lets
+/// something foreign to its volume, and comes up if none does.
+#[test]
+fn under_every_choice() {
+    let folder = configured("hook-ties");
+    let fabric = folder.join("tied.fabric");
+    let stories = Path::new(env!("CARGO_MANIFEST_DIR")).join("stories");
+    for (story, why) in [
+        (
+            "two-controllers",
+            Some("reached: port 2, from port 1, by a choice among equals at hop 1"),
+        ),
+        ("two-controllers.closed", None),
+        ("harmless-ties", None),
+    ] {
+        let said = fs::read_to_string(stories.join(format!("{story}.fabric.txt"))).unwrap();
+        fs::write(&fabric, pack(&said).unwrap()).unwrap();
+        configure(&folder, PROGRAM, &fabric, "2");
+        match why {
+            Some(why) => is_refused(&folder, STATE, why),
+            None => assert_eq!(hook(&folder, STATE), (Some(0), String::new())),
+        }
     }
 }
 
