@@ -149,6 +149,34 @@ fn a_run_stops_where_entries_tie() {
     assert_eq!(run.get("tied"), Some(&Value::List(vec![])));
 }
 
+/// The first switch writes tp_dst 80, which makes entries tie at the third.
+#[test]
+fn a_rewrite_makes_entries_tie_two_hops_on() {
+    let folder = with(
+        "two-hops-on",
+        "link 10 -> 11\nlink 20 -> 21\n\
+         entry 1 -> 10 priority 5 match any set tp_dst=80\n\
+         entry 11 -> 20 priority 5 match any\n\
+         entry 21 -> drop priority 5 match tp_dst=80\n\
+         entry 21 -> drop priority 5 match tp_dst=0\n\
+         entry 21 -> 2 priority 5 match any\n",
+    );
+    let reached = ran(&folder, "verdict fabric 2");
+    assert!(reached.text().contains(
+        "  hop 3: in at port 21, out at port 2, leaving the fabric\n    \
+         entry 4, priority 5; entry 2 of the same priority might take it too\n"
+    ));
+    assert_eq!(reached.text().matches("might take it too").count(), 2);
+    let answer = answered(&folder, "verdict fabric 2 --json");
+    assert_eq!(equals_of_path(&answer), [vec![], vec![], vec![2]]);
+    let list = answered(&folder, "list fabric 2 --json");
+    assert_eq!(equals_of_first(&list), [vec![], vec![], vec![2]]);
+    let run = ran(&folder, "run fabric 1 any");
+    assert!(run.text().starts_with(
+        "tied: entries 2 and 4 of the same priority might take it at port 21, after 2 hops\n"
+    ));
+}
+
 /// In a list a find may be of many headers, of which others might take some.
 #[test]
 fn a_list_tells_choices() {
