@@ -4,6 +4,7 @@
 mod benchmark;
 mod damage;
 mod denies;
+mod equals;
 mod largest;
 mod parts;
 mod queries;

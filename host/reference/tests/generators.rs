@@ -8,11 +8,13 @@ use common::answer;
 use reference::file::{read, write};
 use reference::index::Index;
 use reference::random::{
-    any, beater_chain, campus, cases, deep_ring, largest, ring, switches, twenty_denies, Benchmark,
-    Rng,
+    any, beater_chain, campus, cases, dead_ends, deep_ring, largest, ring, small, small_ring,
+    switches, ties, tiny, twenty_denies, wild_under_denies, Benchmark, Rng,
 };
 use reference::trace::trace;
-use reference::{list, verdict, Fabric, Query, Set};
+use reference::{list, verdict, Entry, Fabric, Query, Set};
+
+type Make = fn(&mut Rng) -> Fabric;
 
 #[test]
 fn fabrics_are_accepted_and_read_back() {
@@ -53,7 +55,7 @@ fn most_hops(fabric: &Fabric) -> usize {
 
 #[test]
 fn rings_and_switches_are_crossed() {
-    let most = |make: fn(&mut Rng) -> Fabric| {
+    let most = |make: Make| {
         let fabrics = (0..100).map(|seed| make(&mut Rng::new(seed)));
         fabrics.map(|fabric| most_hops(&fabric)).max()
     };
@@ -65,6 +67,43 @@ fn rings_and_switches_are_crossed() {
 fn beater_chains_reach_63() {
     let chains = (0..300).map(|seed| beater_chain(&mut Rng::new(seed)));
     assert_eq!(chains.map(|fabric| fabric.entries.len()).max(), Some(64));
+}
+
+/// Whether two entries of an in-port have one priority and matches that meet.
+fn has_equals(fabric: &Fabric) -> bool {
+    let entries = &fabric.entries;
+    let mut pairs = (0..entries.len()).flat_map(|a| (0..a).map(move |b| (a, b)));
+    pairs.any(|(a, b)| {
+        let (a, b) = (&entries[a], &entries[b]);
+        let rank = |entry: &Entry| (entry.in_port, entry.priority);
+        rank(a) == rank(b) && a.matching.meets(&b.matching)
+    })
+}
+
+/// Each generator makes many fabrics with equals and many without.
+#[test]
+fn equals_and_none() {
+    let generators: [(&str, Make); 10] = [
+        ("tiny", |rng| tiny(rng).fabric),
+        ("small", |rng| small(rng).fabric),
+        ("ties", |rng| ties(rng).fabric),
+        ("dead ends", |rng| dead_ends(rng).fabric),
+        ("small ring", |rng| small_ring(rng).fabric),
+        ("switches", switches),
+        ("ring", ring),
+        ("beater chain", beater_chain),
+        ("wild under denies", wild_under_denies),
+        ("largest", largest),
+    ];
+    for (name, make) in generators {
+        let fabrics = (0..300).map(|seed| make(&mut Rng::new(seed)));
+        let with_equals = fabrics.filter(has_equals).count();
+        let expected = match name {
+            "ties" => 225..=299,
+            _ => 75..=225,
+        };
+        assert!(expected.contains(&with_equals), "{name}: {with_equals}");
+    }
 }
 
 /// Entries, units and finds of a benchmark, whose target is isolated.

@@ -1,5 +1,6 @@
 //! One allow under many denies.
 
+use super::equals::settle;
 use super::parts::{mask_of, proper, some_ports, spread_bits, tidy};
 use super::small::random_edge;
 use super::Rng;
@@ -33,6 +34,7 @@ pub fn beater_chain(rng: &mut Rng) -> Fabric {
     }
     fabric.entries.push(allow(start, target));
     rng.shuffle(&mut fabric.entries);
+    settle(rng, &mut fabric);
     fabric
 }
 
@@ -56,6 +58,7 @@ pub fn wild_under_denies(rng: &mut Rng) -> Fabric {
     }
     fabric.entries.push(allow(start, target));
     rng.shuffle(&mut fabric.entries);
+    settle(rng, &mut fabric);
     fabric
 }
 

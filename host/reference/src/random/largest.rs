@@ -1,5 +1,6 @@
 //! The largest file.
 
+use super::equals::settle;
 use super::parts::{address, field_rewrite, in_port, out_port, prefix_of, some_ports, tidy};
 use super::Rng;
 use crate::fabric::{
@@ -45,5 +46,6 @@ pub fn largest(rng: &mut Rng) -> Fabric {
             rewrite: field_rewrite(rng),
         });
     }
+    settle(rng, &mut fabric);
     fabric
 }

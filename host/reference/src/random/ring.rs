@@ -1,5 +1,6 @@
 //! Rings of switches.
 
+use super::equals::settle;
 use super::parts::{address, field_rewrite, prefix_of, some_ports, tidy};
 use super::Rng;
 use crate::fabric::{Edge, Entry, Fabric, Link};
@@ -45,6 +46,7 @@ pub fn ring(rng: &mut Rng) -> Fabric {
     }
     tidy(&mut fabric);
     rng.shuffle(&mut fabric.entries);
+    settle(rng, &mut fabric);
     fabric
 }
 

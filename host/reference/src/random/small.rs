@@ -1,6 +1,7 @@
 //! Small fabrics, whose sets and rewrites are over a few bits, so that every
 //! header over these can be forwarded.
 
+use super::equals::settle;
 use super::parts::{in_port, out_port, rewrite_over, set_over, some_ports, spread_bits, tidy};
 use super::Rng;
 use crate::fabric::{Edge, Entry, Fabric, Link};
@@ -21,9 +22,10 @@ pub fn tiny(rng: &mut Rng) -> Small {
         entries: rng.between(0, 5),
         priorities: 3,
         bits: 4,
+        cared: 4,
         inward: 3,
     };
-    shaped(rng, &shape)
+    settled(rng, &shape)
 }
 
 /// A few edges, links and entries over some bits.
@@ -35,20 +37,22 @@ pub fn small(rng: &mut Rng) -> Small {
         entries: rng.between(4, 16),
         priorities: 4,
         bits: rng.between(4, 8),
+        cared: 4,
         inward: 8,
     };
-    shaped(rng, &shape)
+    settled(rng, &shape)
 }
 
-/// Equal priorities: the file's order decides.
+/// Equal priorities, and matches that meet: several entries may take a packet.
 pub fn ties(rng: &mut Rng) -> Small {
     let shape = Shape {
         edges: rng.between(2, 3),
-        links: rng.between(0, 3),
+        links: rng.between(1, 3),
         inner: 4,
-        entries: rng.between(6, 16),
-        priorities: 1,
-        bits: rng.between(4, 7),
+        entries: rng.between(6, 12),
+        priorities: rng.between(1, 3),
+        bits: rng.between(4, 6),
+        cared: 3,
         inward: 8,
     };
     shaped(rng, &shape)
@@ -63,9 +67,10 @@ pub fn dead_ends(rng: &mut Rng) -> Small {
         entries: rng.between(8, 20),
         priorities: 4,
         bits: rng.between(4, 7),
+        cared: 4,
         inward: 2,
     };
-    shaped(rng, &shape)
+    settled(rng, &shape)
 }
 
 /// What `shaped` makes.
@@ -79,9 +84,18 @@ struct Shape {
     priorities: usize,
     /// How many bits the sets care for and the rewrites write.
     bits: usize,
+    /// How many of them a match cares for at most.
+    cared: usize,
     /// Once in this many, an entry's in-port is any port at all; else a packet
     /// can come in there.
     inward: usize,
+}
+
+/// Some with ties on purpose, some with none.
+fn settled(rng: &mut Rng, shape: &Shape) -> Small {
+    let mut made = shaped(rng, shape);
+    settle(rng, &mut made.fabric);
+    made
 }
 
 fn shaped(rng: &mut Rng, shape: &Shape) -> Small {
@@ -106,7 +120,7 @@ fn shaped(rng: &mut Rng, shape: &Shape) -> Small {
             priority: (lowest + rng.below(shape.priorities) * step) as u16,
             in_port,
             out_port,
-            matching: set_over(rng, &bits, 4),
+            matching: set_over(rng, &bits, shape.cared),
             rewrite: rewrite_over(rng, &bits, 3),
         });
     }
@@ -138,6 +152,7 @@ pub fn small_ring(rng: &mut Rng) -> Small {
     }
     tidy(&mut fabric);
     rng.shuffle(&mut fabric.entries);
+    settle(rng, &mut fabric);
     Small { fabric, bits }
 }
 

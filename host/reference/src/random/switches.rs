@@ -1,5 +1,6 @@
 //! Switches with many ports and links between them.
 
+use super::equals::settle;
 use super::parts::{address, field_rewrite, prefix_of, some_ports, tidy};
 use super::Rng;
 use crate::fabric::{Edge, Entry, Fabric, Link};
@@ -28,6 +29,7 @@ pub fn switches(rng: &mut Rng) -> Fabric {
     }
     tidy(&mut fabric);
     rng.shuffle(&mut fabric.entries);
+    settle(rng, &mut fabric);
     fabric
 }
 
