@@ -1,29 +1,35 @@
-//! Forwarding a packet: document 01, "Forwarding".
+//! Forwarding a packet: document 01, "Forwarding", with document 02's equal
+//! priorities (2.3).
 
 use crate::fabric::Fabric;
 use crate::set::Header;
 
-/// "An entry beats another with the same in-port if its priority is higher, or
-/// equal and it stands earlier in the file." Both are entry numbers.
+/// "Now only a strictly higher priority beats", at the same in-port. Both are
+/// entry numbers.
 pub fn beats(fabric: &Fabric, one: usize, other: usize) -> bool {
     let (a, b) = (&fabric.entries[one], &fabric.entries[other]);
-    a.in_port == b.in_port && (a.priority > b.priority || a.priority == b.priority && one < other)
+    a.in_port == b.in_port && a.priority > b.priority
 }
 
-/// "Of the entries whose match holds the header, the one that no other beats
-/// takes it." Its number; none if the packet is lost.
-pub fn taker(fabric: &Fabric, in_port: u16, header: Header) -> Option<usize> {
-    let mut best = None;
+/// "Any matching entry of the highest priority may take the packet": their
+/// numbers, in file order. None: the packet is lost.
+pub fn takers(fabric: &Fabric, in_port: u16, header: Header) -> Vec<usize> {
+    let mut takers: Vec<usize> = Vec::new();
     for (number, entry) in fabric.entries.iter().enumerate() {
-        let holds = entry.in_port == in_port && entry.matching.contains(header);
-        if holds && best.is_none_or(|best| beats(fabric, number, best)) {
-            best = Some(number);
+        if entry.in_port != in_port || !entry.matching.contains(header) {
+            continue;
         }
+        match takers.first() {
+            Some(&taker) if beats(fabric, taker, number) => continue,
+            Some(&taker) if beats(fabric, number, taker) => takers.clear(),
+            _ => {}
+        }
+        takers.push(number);
     }
-    best
+    takers
 }
 
-/// How a packet run ends, with document 01's numbers.
+/// How a packet run ends, with the documents' numbers.
 #[derive(Clone, Copy, Debug, PartialEq, Eq)]
 pub enum Fate {
     Left = 0,
@@ -31,13 +37,16 @@ pub enum Fate {
     Lost = 2,
     /// "The limit's hops are made and a link leads on, whatever stands there."
     Travelling = 3,
+    /// "A run that meets two such entries stops with fate 4 and the in-port."
+    Tied = 4,
 }
 
 /// A packet run. Hops are the length of `entries`: each entry taken makes one.
 #[derive(Clone, Debug, PartialEq, Eq)]
 pub struct Run {
     pub fate: Fate,
-    /// "Left: out-port; dropped or lost: in-port; travelling: next in-port."
+    /// "Left: out-port; dropped or lost: in-port; travelling: next in-port";
+    /// tied: in-port.
     pub port: u16,
     /// The header then, after the last rewrite made.
     pub header: Header,
@@ -61,8 +70,12 @@ pub fn run(fabric: &Fabric, start: u16, header: Header, limit: usize) -> Run {
 
 /// The next hop of a packet that travels: "It rewrites, and one hop is made."
 fn hop(fabric: &Fabric, at: &mut Run) {
-    let Some(number) = taker(fabric, at.port, at.header) else {
-        at.fate = Fate::Lost;
+    let takers = takers(fabric, at.port, at.header);
+    let [number] = takers[..] else {
+        at.fate = match takers.is_empty() {
+            true => Fate::Lost,
+            false => Fate::Tied,
+        };
         return;
     };
     let entry = &fabric.entries[number];

@@ -3,7 +3,7 @@
 //! telling has the answer for every budget.
 
 use crate::calls::Query;
-use crate::fabric::{Edge, Fabric};
+use crate::fabric::{Edge, Entry, Fabric};
 use crate::set::Set;
 
 /// Byte `i` is a `0`, `1` or `x` for bit `i` in document 01's order, from word 0
@@ -147,15 +147,10 @@ impl Teller<'_> {
     fn beaters(&self, number: usize) -> Vec<Ternary> {
         let entries = &self.fabric.entries;
         let beaten = &entries[number];
-        let mut beaters = Vec::new();
-        for (other, entry) in entries.iter().enumerate() {
-            let higher = entry.priority > beaten.priority;
-            let earlier = entry.priority == beaten.priority && other < number;
-            if entry.in_port == beaten.in_port && (higher || earlier) {
-                beaters.push(from_set(&entry.matching));
-            }
-        }
-        beaters
+        let beats =
+            |entry: &&Entry| entry.in_port == beaten.in_port && entry.priority > beaten.priority;
+        let beaters = entries.iter().filter(beats);
+        beaters.map(|entry| from_set(&entry.matching)).collect()
     }
 }
 

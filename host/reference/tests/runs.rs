@@ -2,11 +2,14 @@
 
 mod common;
 
-use common::answer;
+use std::cell::Cell;
+
+use common::{answer, filled};
 use reference::examples::{edge, entry, fabric, link, run_query, to_tp_dst, tp_dst};
 use reference::file::write;
 use reference::random::{any, cases, packet};
-use reference::{brute, run, Fabric, Set};
+use reference::ways::{Packet, TIED};
+use reference::{run, Entry, Fabric, Set};
 
 /// Edges 1 and 2; links 10 to 11, 12 to 13, 14 to 15.
 /// At 1: entry 2 sends tp_dst 80 to 10, as 81; entry 4 sends what has two bits
@@ -37,10 +40,7 @@ fn chain() -> Fabric {
 }
 
 fn words(head: [u32; 8], entries: &[u32]) -> Vec<u32> {
-    let mut words = head.to_vec();
-    words.extend(entries);
-    words.resize(24, 0);
-    words
+    filled(&[&head, entries].concat())
 }
 
 fn run_of(limit: u32, start: u32, header: [u32; 4]) -> Vec<u32> {
@@ -97,17 +97,35 @@ fn left_at_a_port_that_is_no_edge() {
     assert_eq!(got, Ok(words([0, 0, 11, 1, 0, 0, 0, 0], &[0])));
 }
 
+/// Whichever stands first, and with a third above or below.
 #[test]
-fn of_equals_the_earlier_takes_it() {
-    let mut entries = [entry(3, 1, 0), entry(4, 1, 2), entry(4, 1, 3)];
+fn two_equals_are_a_tie() {
     let edges = [edge(1, 1)];
-    let port_after = |entries: &[_]| {
+    let run_of = |entries: &[Entry]| {
         let file = write(&fabric(&edges, &[], entries));
-        answer(run, &file, 96, &run_query(1, 1, [0; 4])).unwrap()[2]
+        answer(run, &file, 96, &run_query(1, 1, [1, 2, 3, 4])).unwrap()
     };
-    assert_eq!(port_after(&entries), 2);
-    entries.swap(1, 2);
-    assert_eq!(port_after(&entries), 3);
+    let (a, b) = (entry(4, 1, 2), entry(4, 1, 3));
+    let (lower, higher) = (entry(3, 1, 0), entry(5, 1, 0));
+    let tied = words([4, 0, 1, 0, 1, 2, 3, 4], &[]);
+    for entries in [[a, b, lower], [b, a, lower], [lower, a, b], [a, lower, b]] {
+        assert_eq!(run_of(&entries), tied);
+    }
+    for (entries, taker) in [
+        ([a, b, higher], 2),
+        ([a, higher, b], 1),
+        ([higher, a, b], 0),
+    ] {
+        let dropped = words([1, 0, 1, 1, 1, 2, 3, 4], &[taker]);
+        assert_eq!(run_of(&entries), dropped);
+    }
+    // Elsewhere, or for other headers, an equal is none.
+    let mut narrow = b;
+    narrow.matching = tp_dst(80);
+    for other in [narrow, entry(4, 9, 3)] {
+        let left = words([0, 0, 2, 1, 1, 2, 3, 4], &[0]);
+        assert_eq!(run_of(&[a, other]), left);
+    }
 }
 
 /// Priority counts also against an entry with no wild bit.
@@ -130,19 +148,27 @@ fn sixteen_hops_round_a_ring() {
     assert_eq!(got, Ok(words([3, 0, 13, 16, 0, 0, 0, 0], &taken)));
 }
 
-/// Against the naive forwarding, over all kinds of fabrics.
+/// Against the naive forwarding, over all kinds of fabrics; and by all ends,
+/// where these are few enough to be looked at.
 #[test]
 fn runs_agree_with_naive_forwarding() {
+    let tied = Cell::new(0);
     cases(10_000, 2000, |rng| {
         let fabric = any(rng);
         let file = write(&fabric);
         for _ in 0..20 {
             let query = packet(rng, &fabric);
-            if let Ok(words) = answer(run, &file, 100, &query) {
-                let header = query.asked().value;
-                let naive = brute::forward(&fabric, query.port as u16, header, query.limit);
-                assert_eq!(words, naive);
+            let Ok(words) = answer(run, &file, 100, &query) else {
+                continue;
+            };
+            let packet = Packet::asked(&fabric, &query);
+            let naive = packet.run();
+            assert_eq!(words, naive.words().unwrap());
+            if let Some(ends) = packet.ends(1000) {
+                assert_eq!(packet.run_by(&ends), Some(naive));
             }
+            tied.set(tied.get() + u32::from(words[0] == TIED));
         }
     });
+    assert!(tied.get() > 2000 || std::env::var("SEED").is_ok());
 }

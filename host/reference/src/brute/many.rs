@@ -1,16 +1,19 @@
-//! The naive check on many small fabrics, of any implementation's verdict and
-//! list.
+//! The naive check on many small fabrics, of any implementation's calls.
 
-use std::cell::Cell;
+use std::collections::BTreeSet;
 
-use super::{arrivals, check_list, check_verdict};
+use super::tally::{facts_of_arrivals, facts_of_runs, Fact, Tally};
+use super::{arrivals, check_list, check_run, check_verdict, ends, Arrivals, Ends};
 use crate::calls::{Answer, Query};
+use crate::examples::run_query;
 use crate::file::write;
-use crate::query::LENT_BYTES;
 use crate::random::{cases, small_query, Rng, Small};
+use crate::set::to_words;
 
-/// Enough for every query of a small fabric.
+/// Enough for nearly every query of a small fabric.
 pub const BUDGET: u32 = 100_000;
+/// Of all packets together; few small fabrics have more.
+pub const MOST_WAYS: usize = 20_000;
 
 /// A call, given file, bytes lent and query.
 pub type Ask = fn(&[u8], usize, &Query) -> Answer;
@@ -20,38 +23,7 @@ pub type Ask = fn(&[u8], usize, &Query) -> Answer;
 pub struct Checked {
     pub verdict: Ask,
     pub list: Ask,
-}
-
-/// How often things happened that the checks are about.
-#[derive(Default)]
-pub struct Tally {
-    cases: Cell<u32>,
-    found: Cell<u32>,
-    reached: Cell<u32>,
-    isolated_with_finds: Cell<u32>,
-    /// Found after three hops or more.
-    far: Cell<u32>,
-}
-
-impl Tally {
-    /// Whether ways of three hops or more came up often.
-    pub fn goes_far(&self) -> bool {
-        self.replayed() || self.often(&self.far)
-    }
-
-    /// Whether a single seed was asked for.
-    fn replayed(&self) -> bool {
-        self.cases.get() < 100
-    }
-
-    /// In more than one case of twenty.
-    fn often(&self, cell: &Cell<u32>) -> bool {
-        cell.get() * 20 > self.cases.get()
-    }
-}
-
-fn count(cell: &Cell<u32>, happened: bool) {
-    cell.set(cell.get() + u32::from(happened));
+    pub run: Ask,
 }
 
 impl Checked {
@@ -60,38 +32,67 @@ impl Checked {
         let tally = Tally::default();
         cases(first, number, |rng| {
             let made = make(rng);
-            for _ in 0..3 {
-                self.on_one(&made, &small_query(rng, &made), &tally);
+            let limit = small_query(rng, &made).limit;
+            tally.count([Fact::Fabric]);
+            match ends(&made.fabric, &made.bits, limit, MOST_WAYS) {
+                Some(ends) => tally.count(self.on_one(&made, limit, &ends, rng)),
+                None => tally.count([Fact::Skipped]),
             }
         });
-        if !tally.replayed() {
-            assert!(tally.often(&tally.found));
-            assert!(tally.often(&tally.reached));
-            assert!(tally.isolated_with_finds.get() > 200);
-        }
+        tally.has(200, &[Fact::Found, Fact::Reached, Fact::NoTie]);
+        tally.has(100, &[Fact::IsolatedWithFinds]);
+        tally.has_less_than_once_in(20, Fact::Skipped);
         tally
     }
 
-    fn on_one(self, made: &Small, query: &Query, tally: &Tally) {
-        count(&tally.cases, true);
+    /// Checks three queries of a fabric and, of one fabric in three, the runs of
+    /// all packets. Gives what was in these.
+    fn on_one(self, made: &Small, limit: u32, ends: &Ends, rng: &mut Rng) -> BTreeSet<Fact> {
         let file = write(&made.fabric);
-        let query = Query {
-            budget: BUDGET,
-            ..*query
-        };
-        if made.fabric.edges.is_empty() {
-            assert_eq!((self.list)(&file, 0, &query), Err((8, 0)));
-            return;
+        let mut facts = BTreeSet::new();
+        for _ in 0..3 {
+            let query = Query {
+                limit,
+                budget: BUDGET,
+                ..small_query(rng, made)
+            };
+            facts.extend(self.on_query(made, &file, &query, ends));
         }
-        let listed = (self.list)(&file, LENT_BYTES, &query).unwrap();
-        let judged = (self.verdict)(&file, 96, &query).unwrap();
-        let arrivals = arrivals(&made.fabric, &made.bits, &query);
-        check_list(&made.bits, &arrivals, &listed).unwrap();
-        check_verdict(&made.fabric, &arrivals, &query, &judged).unwrap();
-        let (found, reached) = (!listed.is_empty(), judged[0] == 1);
-        count(&tally.found, found);
-        count(&tally.reached, reached);
-        count(&tally.isolated_with_finds, found && !reached);
-        count(&tally.far, arrivals.values().any(|way| way.hops >= 3));
+        if rng.once_in(3) {
+            self.on_runs(&file, ends);
+            facts.extend(facts_of_runs(ends));
+        }
+        facts
     }
+
+    fn on_query(self, made: &Small, file: &[u8], query: &Query, ends: &Ends) -> BTreeSet<Fact> {
+        if made.fabric.edges.is_empty() {
+            assert_eq!((self.list)(file, 0, query), Err((8, 0)));
+            return [].into();
+        }
+        let arrivals = arrivals(ends, query);
+        let listed = match (self.list)(file, most_bytes(&arrivals), query) {
+            Err((13, 0)) => return [Fact::Skipped].into(),
+            listed => listed.unwrap(),
+        };
+        check_list(&made.bits, &arrivals, &listed).unwrap();
+        let judged = (self.verdict)(file, 96, query).unwrap();
+        check_verdict(&made.fabric, &arrivals, query, &judged).unwrap();
+        facts_of_arrivals(ends, query)
+    }
+
+    fn on_runs(self, file: &[u8], ends: &Ends) {
+        for (packet, ends) in ends {
+            let header = to_words(packet.header);
+            let asked = run_query(packet.start.into(), packet.limit, header);
+            let words = (self.run)(file, 96, &asked).unwrap();
+            check_run(packet, ends, &words).unwrap();
+        }
+    }
+}
+
+/// What a list takes that has a find for each way of a pair.
+fn most_bytes(arrivals: &Arrivals) -> usize {
+    let words = |way: &Vec<u32>| 9 + way.len();
+    4 * arrivals.values().flatten().map(words).sum::<usize>()
 }

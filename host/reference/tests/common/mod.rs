@@ -1,6 +1,8 @@
 //! What several tests need.
 
-use reference::calls::{read_answer, Answer};
+#![allow(dead_code)]
+
+use reference::calls::{read_answer, Answer, ANSWER_WORDS};
 use reference::Query;
 
 /// One of the three calls.
@@ -16,4 +18,11 @@ pub fn answer(call: Call, file: &[u8], lent: usize, query: &Query) -> Answer {
     let written = answer.as_ref().map_or(0, |words| 4 * words.len());
     assert_eq!(area[written..], untouched[written..], "bytes that stay");
     answer
+}
+
+/// A verdict's or a run's words: these, and zeros.
+pub fn filled(words: &[u32]) -> Vec<u32> {
+    let mut words = words.to_vec();
+    words.resize(ANSWER_WORDS, 0);
+    words
 }

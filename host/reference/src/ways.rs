@@ -1,0 +1,204 @@
+//! Plain forwarding of one packet under every choice among equals: document
+//! 01's "Forwarding" and document 02's 2.3, sentence by sentence. It takes only
+//! the plain records from the rest, and knows nothing of a trace.
+
+use crate::calls::Query;
+use crate::fabric::{Entry, Fabric};
+use crate::set::{to_words, Header, Rewrite, Set};
+
+/// Word 0 of a run.
+pub const LEFT: u32 = 0;
+pub const DROPPED: u32 = 1;
+pub const LOST: u32 = 2;
+pub const TRAVELLING: u32 = 3;
+pub const TIED: u32 = 4;
+
+/// How far a packet has come, by one choice at each hop.
+#[derive(Clone, Debug, PartialEq, Eq)]
+pub struct Way {
+    /// None while the packet goes on.
+    pub fate: Option<u32>,
+    /// The in-port; at the end what word 2 of a run says.
+    pub port: u16,
+    pub header: Header,
+    /// The entries that took it, in travelling order; their numbers.
+    pub entries: Vec<u32>,
+}
+
+impl Way {
+    fn ended(self, fate: u32) -> Way {
+        Way {
+            fate: Some(fate),
+            ..self
+        }
+    }
+
+    /// Whether it is an end at the target, with a header in the asked set.
+    pub fn arrives(&self, query: &Query) -> bool {
+        let left_there = self.fate == Some(LEFT) && u32::from(self.port) == query.port;
+        left_there && holds(&query.asked(), self.header)
+    }
+
+    /// The 24 words of a packet run that ended like this.
+    pub fn words(&self) -> Option<[u32; 24]> {
+        let mut words = [0; 24];
+        words[0] = self.fate?;
+        words[2] = u32::from(self.port);
+        words[3] = self.entries.len() as u32;
+        words[4..8].copy_from_slice(&to_words(self.header));
+        for (word, &number) in words[8..].iter_mut().zip(&self.entries) {
+            *word = number;
+        }
+        Some(words)
+    }
+}
+
+/// A packet that is sent into a fabric, for at most `limit` hops, 1 to 16.
+#[derive(Clone, Copy, Debug)]
+pub struct Packet<'f> {
+    pub fabric: &'f Fabric,
+    pub start: u16,
+    pub header: Header,
+    pub limit: u32,
+}
+
+impl<'f> Packet<'f> {
+    /// The packet that a run's query asks about, if that is in range.
+    pub fn asked(fabric: &'f Fabric, query: &Query) -> Packet<'f> {
+        Packet {
+            fabric,
+            start: query.port as u16,
+            header: query.asked().value,
+            limit: query.limit,
+        }
+    }
+
+    /// Its ends under every choice, "chosen afresh at each hop": each once, in
+    /// the order of the entries taken. None if there are more than `most`.
+    pub fn ends(&self, most: usize) -> Option<Vec<Way>> {
+        let mut ends = Vec::new();
+        // The way that is followed next stands last.
+        let mut open = vec![self.at_start()];
+        while let Some(way) = open.pop() {
+            if way.fate.is_some() {
+                ends.push(way);
+                continue;
+            }
+            let takers = takers(self.fabric, way.port, way.header);
+            if ends.len() + open.len() + takers.len().max(1) > most {
+                return None;
+            }
+            for &number in takers.iter().rev() {
+                open.push(self.taken(way.clone(), number));
+            }
+            if takers.is_empty() {
+                ends.push(way.ended(LOST));
+            }
+        }
+        Some(ends)
+    }
+
+    /// Its run: as long as one entry alone may take the packet, that one does.
+    /// "A run that meets two such entries stops with fate 4."
+    pub fn run(&self) -> Way {
+        let mut way = self.at_start();
+        while way.fate.is_none() {
+            way = match takers(self.fabric, way.port, way.header)[..] {
+                [] => way.ended(LOST),
+                [only] => self.taken(way, only),
+                _ => way.ended(TIED),
+            };
+        }
+        way
+    }
+
+    /// The same by all its ends: the only one, or where the ways part.
+    pub fn run_by(&self, ends: &[Way]) -> Option<Way> {
+        let (first, others) = ends.split_first()?;
+        if others.is_empty() {
+            return Some(first.clone());
+        }
+        let taken_in_all = |hop: &usize| {
+            let taken = |way: &Way| way.entries.get(*hop).copied();
+            others.iter().all(|way| taken(way) == taken(first))
+        };
+        let shared = (0..first.entries.len()).take_while(taken_in_all).count();
+        let way = self.follow(&first.entries[..shared])?;
+        Some(way.ended(TIED))
+    }
+
+    /// Its way if these entries take it in turn; none unless each of them may.
+    pub fn follow(&self, entries: &[u32]) -> Option<Way> {
+        let mut way = self.at_start();
+        for &number in entries {
+            let takers = takers(self.fabric, way.port, way.header);
+            if way.fate.is_some() || !takers.contains(&number) {
+                return None;
+            }
+            way = self.taken(way, number);
+        }
+        Some(way)
+    }
+
+    fn at_start(&self) -> Way {
+        Way {
+            fate: None,
+            port: self.start,
+            header: self.header,
+            entries: Vec::new(),
+        }
+    }
+
+    /// "It rewrites, and one hop is made. Out-port 0: dropped. An out-port that
+    /// is some link's from-port: the packet goes on at the to-port. Any other:
+    /// it leaves there." "Still travelling: the limit's hops are made and a
+    /// link leads on, whatever stands there."
+    fn taken(&self, mut way: Way, number: u32) -> Way {
+        let entry = &self.fabric.entries[number as usize];
+        way.header = rewritten(entry, way.header);
+        way.entries.push(number);
+        if entry.out_port == 0 {
+            return way.ended(DROPPED);
+        }
+        let mut links = self.fabric.links.iter();
+        let Some(link) = links.find(|link| link.from == entry.out_port) else {
+            way.port = entry.out_port;
+            return way.ended(LEFT);
+        };
+        way.port = link.to;
+        match way.entries.len() as u32 == self.limit {
+            true => way.ended(TRAVELLING),
+            false => way,
+        }
+    }
+}
+
+/// "Any matching entry of the highest priority may take the packet": their
+/// numbers.
+pub fn takers(fabric: &Fabric, in_port: u16, header: Header) -> Vec<u32> {
+    let matches = |entry: &Entry| entry.in_port == in_port && holds(&entry.matching, header);
+    let numbered = (0..).zip(&fabric.entries);
+    let matching = numbered.filter(|(_, entry)| matches(entry));
+    let highest = matching.clone().map(|(_, entry)| entry.priority).max();
+    matching
+        .filter(|(_, entry)| Some(entry.priority) == highest)
+        .map(|(number, _)| number)
+        .collect()
+}
+
+/// "A header is in it if it equals the value on every care bit."
+pub fn holds(set: &Set, header: Header) -> bool {
+    header & set.care == set.value & set.care
+}
+
+/// "Masked bits become the value's, others stay."
+fn rewritten(entry: &Entry, header: Header) -> Header {
+    let Rewrite { mask, value } = entry.rewrite;
+    if mask == 0 {
+        return header;
+    }
+    (0..128).fold(0, |after, bit| {
+        let from = if mask >> bit & 1 == 1 { value } else { header };
+        after | from & 1 << bit
+    })
+}

@@ -1,0 +1,162 @@
+//! The naive checks find what is wrong in a list, a verdict or a run.
+
+mod common;
+
+use std::cell::Cell;
+
+use common::answer;
+use reference::brute::{
+    arrivals, check_list, check_run, check_verdict, ends, Ends, BUDGET, MOST_WAYS,
+};
+use reference::examples::run_query;
+use reference::file::write;
+use reference::query::LENT_BYTES;
+use reference::random::{cases, small, small_query, ties, Rng, Small};
+use reference::set::{from_words, to_words};
+use reference::ways::Packet;
+use reference::{list, run, verdict, Fabric, Query};
+
+/// 400 cases, with ties and without.
+fn on_cases(first: u64, check: impl Fn(&Small, &Query, &Ends, &mut Rng)) {
+    cases(first, 400, |rng| {
+        let made = if rng.once_in(2) {
+            small(rng)
+        } else {
+            ties(rng)
+        };
+        let query = Query {
+            budget: BUDGET,
+            ..small_query(rng, &made)
+        };
+        if let Some(ends) = ends(&made.fabric, &made.bits, query.limit, MOST_WAYS) {
+            check(&made, &query, &ends, rng);
+        }
+    });
+}
+
+/// These words with a bit of one of them flipped.
+fn flipped(words: &[u32], word: usize, rng: &mut Rng) -> Vec<u32> {
+    let mut flipped = words.to_vec();
+    flipped[word] ^= 1 << rng.below(32);
+    flipped
+}
+
+/// Counts how often something was seen.
+#[derive(Default)]
+struct Seen(Cell<u32>);
+
+impl Seen {
+    fn count(&self, happened: bool) {
+        self.0.set(self.0.get() + u32::from(happened));
+    }
+
+    /// Fails if it was seen too little, unless a single seed was asked for.
+    fn at_least(&self, floor: u32) {
+        let seen = self.0.get();
+        assert!(seen >= floor || std::env::var("SEED").is_ok(), "{seen}");
+    }
+}
+
+#[test]
+fn wrong_lists() {
+    let noticed = Seen::default();
+    on_cases(600_000, |made, query, ends, rng| {
+        let arrivals = arrivals(ends, query);
+        let is_wrong = |words: &[u32]| check_list(&made.bits, &arrivals, words).is_err();
+        let listed = answer(list, &write(&made.fabric), LENT_BYTES, query);
+        let words = listed.unwrap_or_default();
+        let Some(first) = words.first() else {
+            return;
+        };
+        let length = 9 + (first >> 12 & 0xffff) as usize;
+        assert!(is_wrong(&words[length..]), "a find is gone");
+        let twice = [&words, &words[..length]].concat();
+        assert!(is_wrong(&twice), "a find is there twice");
+        for word in 0..length {
+            let changed = flipped(&words, word, rng);
+            assert!(is_wrong(&changed), "word {word} has changed");
+        }
+        noticed.count(true);
+    });
+    noticed.at_least(150);
+}
+
+/// The units aren't checked, and another header may be as right.
+#[test]
+fn wrong_verdicts() {
+    let (noticed, by_another) = (Seen::default(), Seen::default());
+    on_cases(610_000, |made, query, ends, rng| {
+        let arrivals = arrivals(ends, query);
+        let Ok(words) = answer(verdict, &write(&made.fabric), 96, query) else {
+            return;
+        };
+        let flips = [0, 2, 3].into_iter().chain(8..24);
+        let mut changed: Vec<_> = flips.map(|word| flipped(&words, word, rng)).collect();
+        changed.extend(by_other_entries(&made.fabric, &words));
+        for changed in changed {
+            let is_wrong = check_verdict(&made.fabric, &arrivals, query, &changed).is_err();
+            let is_right = arrives_so(&made.fabric, query, &changed);
+            assert_eq!(is_wrong, !is_right, "{changed:x?} for {words:x?}");
+            noticed.count(is_wrong);
+            by_another.count(is_right);
+        }
+    });
+    noticed.at_least(5000);
+    by_another.at_least(5);
+}
+
+/// A verdict's words with another entry in the place of one on the way.
+fn by_other_entries(fabric: &Fabric, words: &[u32]) -> Vec<Vec<u32>> {
+    let mut changed = Vec::new();
+    for place in 8..8 + words[3] as usize {
+        let others = (0..fabric.entries.len() as u32).filter(|&other| other != words[place]);
+        for other in others {
+            let mut words = words.to_vec();
+            words[place] = other;
+            changed.push(words);
+        }
+    }
+    changed
+}
+
+/// Whether the packet of these words arrives by their entries: another of
+/// equals may be as right.
+fn arrives_so(fabric: &Fabric, query: &Query, words: &[u32]) -> bool {
+    let entries = words[8..].split_at_checked(words[3] as usize);
+    let (Some((used, unused)), Ok(start)) = (entries, u16::try_from(words[2])) else {
+        return false;
+    };
+    let packet = Packet {
+        fabric,
+        start,
+        header: from_words([words[4], words[5], words[6], words[7]]),
+        limit: query.limit,
+    };
+    let arrives = packet.follow(used).is_some_and(|way| way.arrives(query));
+    words[0] == 1 && arrives && unused.iter().all(|&word| word == 0)
+}
+
+/// The words of one choice's end aren't the run's, if there is another.
+#[test]
+fn wrong_runs() {
+    let tied = Seen::default();
+    on_cases(620_000, |made, _, ends, rng| {
+        let Some((packet, ends)) = rng.pick(ends) else {
+            return;
+        };
+        let header = to_words(packet.header);
+        let asked = run_query(packet.start.into(), packet.limit, header);
+        let words = answer(run, &write(&made.fabric), 96, &asked).unwrap();
+        assert!(check_run(packet, ends, &words).is_ok());
+        for word in 0..24 {
+            let changed = flipped(&words, word, rng);
+            assert!(check_run(packet, ends, &changed).is_err(), "word {word}");
+        }
+        for end in ends {
+            let is_right = check_run(packet, ends, &end.words().unwrap()).is_ok();
+            assert_eq!(is_right, ends.len() == 1);
+        }
+        tied.count(ends.len() > 1);
+    });
+    tied.at_least(50);
+}
