@@ -1,6 +1,10 @@
 //! Document 01's fabric F, and other fabrics and queries made by hand: what
 //! tests here and in the folder above both ask about.
 
+mod equals;
+
+pub use equals::{alike, equals_behind_a_link, equals_below, leak_by_choice, ring_of_equals};
+
 use crate::calls::Query;
 use crate::fabric::{Edge, Entry, Fabric, Link};
 use crate::file::to_le_bytes;
