@@ -14,7 +14,7 @@ use std::process::Command;
 use command::folder;
 use common::{reference_alone, to_host, Call, LIST, RUN, VERDICT};
 use mwishovala::{limits, raw};
-use reference::examples::{fabric_f, run_query, wild_query};
+use reference::examples::{fabric_f, leak_by_choice, run_query, wild_query};
 use reference::file::write;
 use reference::random::{any, cases, damage, deep_ring, packet, query};
 use reference::Query;
@@ -112,6 +112,7 @@ impl Caller {
     fn check_all(&self, first_seed: u64) {
         self.check_empty_slices();
         self.check_deepest();
+        self.check_equals();
         cases(first_seed, 20, |rng| {
             let fabric = any(rng);
             let mut file = write(&fabric);
@@ -140,6 +141,14 @@ impl Caller {
         let nothing = wild_query(1, 16, 9);
         assert_eq!(reference_alone(LIST, &fabric_f(), 0, &nothing).0, 0);
         self.check(LIST, &fabric_f(), 0, &nothing);
+    }
+
+    /// Two entries of one priority: a leak under one choice, a run that is tied.
+    fn check_equals(&self) {
+        let (file, wild) = (write(&leak_by_choice()), wild_query(2, 16, 9));
+        self.check(VERDICT, &file, 96, &wild);
+        self.check(LIST, &file, 96, &wild);
+        self.check(RUN, &file, 96, &run_query(1, 16, [0, 0, 80, 0]));
     }
 
     /// The most stack.

@@ -25,6 +25,8 @@ fn random_fabrics() {
         assert_eq!(ran(&folder, "pack text again").status, 0);
         assert_eq!(fs::read(folder.join("again")).unwrap(), file);
         let port = rng.pick(&fabric.edges).map_or(1, |edge| edge.port);
+        let run = ran(&folder, &format!("run fabric {port} any --json"));
+        assert!(is_json(run.text()), "{}", run.text());
         for line in ["verdict fabric", "list fabric", "dot fabric"] {
             let json = if line.starts_with("dot") {
                 ""

@@ -2,9 +2,8 @@
 
 mod common;
 
-use std::cell::Cell;
-
-use common::{agreed, checks, reference_alone, LIST};
+use common::{agreed, checks, reference_alone, Seen, LIST};
+use reference::brute::finds;
 use reference::examples::{
     edge, entry, fabric, fabric_f, many_finds, to_tp_dst, tp_dst, wild_query,
 };
@@ -35,7 +34,7 @@ fn check_room(file: &[u8], asked: &Query, bytes: usize) {
 
 #[test]
 fn random_fabrics() {
-    let (listed, far) = (Cell::new(0), Cell::new(0));
+    let [listed, far, twice]: [Seen; 3] = Default::default();
     cases(4_000_000, 8000, |rng| {
         let fabric = any(rng);
         let file = write(&fabric);
@@ -43,14 +42,26 @@ fn random_fabrics() {
             let asked = query(rng, &fabric, 20_000);
             if let Some(bytes) = needed(&file, &asked, ROOM) {
                 check_room(&file, &asked, bytes);
-                listed.set(listed.get() + u32::from(bytes > 0));
-                far.set(far.get() + u32::from(bytes > 10_000));
+                let words = agreed(LIST, &file, bytes, &asked).unwrap();
+                listed.add((bytes > 0).into());
+                far.add((bytes > 10_000).into());
+                twice.add(has_a_pair_twice(&words).into());
             } else {
                 let _ = agreed(LIST, &file, rng.below(100), &asked);
             }
         }
     });
-    assert!(listed.get() <= 3 || listed.get() > 2000 && far.get() > 50);
+    listed.at_least(2000);
+    far.at_least(50);
+    twice.at_least(200);
+}
+
+/// Whether two of the first finds have a pair in common, by different ways.
+fn has_a_pair_twice(words: &[u32]) -> bool {
+    let mut finds = finds(words).unwrap();
+    finds.truncate(50);
+    let mut pairs = finds.iter().flat_map(|a| finds.iter().map(move |b| (a, b)));
+    pairs.any(|(a, b)| a.port == b.port && a.entries != b.entries && a.set.meets(&b.set))
 }
 
 #[test]

@@ -3,7 +3,7 @@
 mod common;
 
 use common::program::{printed, printed_in_pieces};
-use reference::examples::{fabric_f, run_query, wild_query};
+use reference::examples::{fabric_f, leak_by_choice, run_query, wild_query};
 use reference::file::write;
 use reference::query::{input, print, RUN, VERDICT};
 use reference::random::{any, cases, damage, packet, query};
@@ -72,6 +72,20 @@ fn inputs_that_come_in_pieces() {
     for size in [1, 3, 47, 48, 49, 100] {
         assert_eq!(printed_in_pieces(&whole, size), print(&whole));
     }
+}
+
+/// Fate 4, of the packet that a verdict shows.
+#[test]
+fn a_tied_run() {
+    let file = write(&leak_by_choice());
+    let asked = input(RUN, &run_query(1, 16, [0, 0, 80, 0]), &file);
+    let text = printed(&asked);
+    assert_eq!(text, print(&asked));
+    assert!(text.starts_with("ok 24\n00000004\n00000000\n00000001\n00000000\n"));
+    let asked = input(VERDICT, &wild_query(2, 16, 1), &file);
+    let text = printed(&asked);
+    assert_eq!(text, print(&asked));
+    assert!(text.starts_with("ok 24\n00000001\n"));
 }
 
 mod trace {

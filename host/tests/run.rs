@@ -4,11 +4,15 @@ mod common;
 
 use std::cell::Cell;
 
-use common::{agreed, checks, RUN};
+use common::{agreed, checks, Seen, RUN};
 use reference::brute;
 use reference::examples::{fabric_f, run_query};
 use reference::file::{read, to_le_bytes, write};
-use reference::random::{any, cases, damage, inflict, largest, packet, Damage, Rng};
+use reference::random::{
+    any, cases, damage, inflict, largest, packet, small_ring, ties, Damage, Rng,
+};
+use reference::set::to_words;
+use reference::ways::{Packet, TIED};
 
 /// What F sends on to port 2.
 const HEADER: [u32; 4] = [0, 0x0a00_0002, 2, 0];
@@ -22,19 +26,18 @@ fn some_length(rng: &mut Rng) -> usize {
     }
 }
 
-/// All four fates come up, and are also what naive forwarding gives.
+/// All five fates come up, and are also what naive forwarding gives.
 #[test]
 fn random_fabrics() {
-    let fates: [Cell<u32>; 4] = Default::default();
+    let fates: [Cell<u32>; 5] = Default::default();
     cases(1_000_000, 15_000, |rng| {
         let fabric = any(rng);
         let file = write(&fabric);
         for _ in 0..10 {
             let query = packet(rng, &fabric);
             if let Ok(words) = agreed(RUN, &file, some_length(rng), &query) {
-                let header = query.asked().value;
-                let naive = brute::forward(&fabric, query.port as u16, header, query.limit);
-                assert_eq!(words, naive);
+                let naive = Packet::asked(&fabric, &query).run();
+                assert_eq!(words, naive.words().unwrap());
                 let fate = &fates[words[0] as usize];
                 fate.set(fate.get() + 1);
             }
@@ -47,20 +50,25 @@ fn random_fabrics() {
 /// Every header over a few bits, from every edge port.
 #[test]
 fn every_header_of_small_fabrics() {
+    let tied = Seen::default();
     cases(1_100_000, 300, |rng| {
-        let made = reference::random::small_ring(rng);
+        let made = match rng.once_in(2) {
+            true => small_ring(rng),
+            false => ties(rng),
+        };
         let file = write(&made.fabric);
         let limit = rng.between(1, 16) as u32;
         for header in brute::headers(&made.bits) {
             for edge in &made.fabric.edges {
-                let port = u32::from(edge.port);
-                let query = run_query(port, limit, reference::set::to_words(header));
+                let query = run_query(edge.port.into(), limit, to_words(header));
                 let words = agreed(RUN, &file, 96, &query).unwrap();
-                let naive = brute::forward(&made.fabric, edge.port, header, limit);
-                assert_eq!(words, naive);
+                let naive = Packet::asked(&made.fabric, &query).run();
+                assert_eq!(words, naive.words().unwrap());
+                tied.add((words[0] == TIED).into());
             }
         }
     });
+    tied.at_least(1000);
 }
 
 #[test]

@@ -1,10 +1,11 @@
-//! Verdicts and lists of the static library, judged without any trace: every
-//! header over a few bits is forwarded, one by one.
+//! Verdicts, lists and runs of the static library, judged without any trace:
+//! every header over a few bits is forwarded, one by one and under every choice
+//! among equals.
 
 mod common;
 
-use common::{product_alone, Call, LIST, VERDICT};
-use reference::brute::Checked;
+use common::{product_alone, Call, LIST, RUN, VERDICT};
+use reference::brute::{Checked, Fact};
 use reference::calls::{read_answer, Answer};
 use reference::random::{dead_ends, small, small_ring, ties, tiny};
 use reference::Query;
@@ -12,6 +13,7 @@ use reference::Query;
 const CHECKED: Checked = Checked {
     verdict: |file, lent, query| product(VERDICT, file, lent, query),
     list: |file, lent, query| product(LIST, file, lent, query),
+    run: |file, lent, query| product(RUN, file, lent, query),
 };
 
 fn product(call: Call, file: &[u8], lent: usize, query: &Query) -> Answer {
@@ -26,20 +28,25 @@ fn tiny_fabrics() {
 
 #[test]
 fn small_fabrics() {
-    CHECKED.on_many(5_100_000, 6000, small);
+    let tally = CHECKED.on_many(5_100_000, 6000, small);
+    tally.has(10, &Fact::OF_TIES);
 }
 
 #[test]
 fn fabrics_of_ties() {
-    CHECKED.on_many(5_200_000, 5000, ties);
+    let tally = CHECKED.on_many(5_200_000, 8000, ties);
+    tally.has(60, &Fact::OF_TIES);
 }
 
 #[test]
 fn fabrics_with_dead_ends() {
-    CHECKED.on_many(5_300_000, 5000, dead_ends);
+    let tally = CHECKED.on_many(5_300_000, 5000, dead_ends);
+    tally.has(10, &Fact::OF_TIES);
 }
 
 #[test]
 fn small_rings() {
-    assert!(CHECKED.on_many(5_400_000, 5000, small_ring).goes_far());
+    let tally = CHECKED.on_many(5_400_000, 5000, small_ring);
+    tally.has(80, &Fact::OF_TIES);
+    tally.has(1500, &[Fact::FoundFar]);
 }

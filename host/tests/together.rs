@@ -1,24 +1,86 @@
-//! The three calls against each other, by the typed wrappers.
+//! The three calls against each other, by the typed wrappers, and against plain
+//! forwarding under every choice among equals.
 
 mod common;
 
-use std::cell::Cell;
-
-use common::to_host;
-use mwishovala::{list_growing, run, verdict, Fabric, Fate, Find, Header, Verdict};
+use common::{to_host, Seen};
+use mwishovala::{list_growing, run, verdict, Fabric, Fate, Find, Header, HeaderSet, Verdict};
 use reference::file::write;
-use reference::random::{any, cases, query};
+use reference::random::{any, cases, packet, query, Rng};
+use reference::set::from_words;
+use reference::ways::Packet;
 use reference::Query;
 
 const MOST_AREA: usize = 4 << 20;
+/// So many finds of a list are looked at one by one.
+const MOST_FINDS: usize = 100;
+/// Packets with more ends than this are left out.
+const MOST_ENDS: usize = 500;
 
-/// A find's lowest header, run forward, arrives with its hops and entries.
-fn arrives(file: &[u8], find: &Find, asked: &mwishovala::Query) {
-    let way = run(file, u32::from(find.port), find.set.lowest(), asked.hops).unwrap();
-    assert_eq!(way.fate, Fate::Left);
-    assert_eq!(u32::from(way.port), asked.port);
-    assert_eq!((way.hops, way.entries), (find.hops, find.entries));
-    assert!(asked.asked.contains(&way.header));
+/// What was asked of a fabric, and the finds.
+struct Listed<'f> {
+    made: &'f reference::Fabric,
+    file: &'f [u8],
+    asked: &'f Query,
+    finds: &'f [Find],
+}
+
+impl Listed<'_> {
+    fn packet(&self, port: u16, header: &Header) -> Packet<'_> {
+        Packet {
+            fabric: self.made,
+            start: port,
+            header: from_words(header.0),
+            limit: self.asked.limit,
+        }
+    }
+
+    /// A find's header arrives by the find's entries, each of which may take it
+    /// in its turn. Its run is the same, or tied on the way. Gives whether it is.
+    fn arrives(&self, find: &Find, header: &Header) -> bool {
+        let entries = numbers(find);
+        let way = self.packet(find.port, header).follow(&entries);
+        assert!(way.expect("each may take it").arrives(self.asked));
+        assert_eq!(find.hops as usize, entries.len());
+        let run = run(self.file, find.port.into(), *header, self.asked.limit).unwrap();
+        match run.fate {
+            Fate::Left => assert_eq!(run.entries, find.entries),
+            Fate::Tied => assert!(run.hops < find.hops && find.entries.starts_with(&run.entries)),
+            fate => panic!("{fate:?}, and it arrives"),
+        }
+        run.fate == Fate::Tied
+    }
+
+    /// The finds that this packet is in.
+    fn holding<'s>(&'s self, port: u16, header: &'s Header) -> impl Iterator<Item = &'s Find> {
+        let holds = move |find: &&Find| find.port == port && find.set.contains(header);
+        self.finds.iter().filter(holds)
+    }
+
+    /// Each way of a packet that arrives is in one find, and the packet in no
+    /// other. Gives how many they are.
+    fn is_in_as_many_finds(&self, port: u16, header: &Header) -> usize {
+        let Some(ends) = self.packet(port, header).ends(MOST_ENDS) else {
+            return 0;
+        };
+        let arriving = ends.into_iter().filter(|end| end.arrives(self.asked));
+        let mut ways: Vec<Vec<u32>> = arriving.map(|end| end.entries).collect();
+        let mut found: Vec<Vec<u32>> = self.holding(port, header).map(numbers).collect();
+        ways.sort();
+        found.sort();
+        assert_eq!(found, ways);
+        found.len()
+    }
+}
+
+fn numbers(find: &Find) -> Vec<u32> {
+    find.entries.iter().map(|&entry| entry.into()).collect()
+}
+
+/// Any header of a set.
+fn one_of(set: &HeaderSet, rng: &mut Rng) -> Header {
+    let word = |place: usize| set.value[place] | rng.draw() as u32 & !set.care[place];
+    Header([0, 1, 2, 3].map(word))
 }
 
 /// Whether a find has a foreign packet.
@@ -30,41 +92,77 @@ fn is_foreign(fabric: &Fabric, find: &Find, target: u16) -> bool {
     edge.group != target.group || !find.set.is_within(&edge.admitted)
 }
 
-/// The find that the header is in; it is in one alone.
-fn the_find<'f>(finds: &'f [Find], port: u16, header: &Header) -> &'f Find {
-    let holding = |find: &&Find| find.port == port && find.set.contains(header);
-    let mut holding = finds.iter().filter(holding);
-    let find = holding.next().expect("the packet is in a find");
-    assert!(holding.next().is_none(), "and in one alone");
-    find
+/// Lists of random fabrics, as far as there are such.
+fn on_lists(first: u64, check: impl Fn(&Listed, &mut Rng)) {
+    cases(first, 10_000, |rng| {
+        let made = any(rng);
+        let file = write(&made);
+        let asked = Query {
+            budget: 20_000,
+            ..query(rng, &made, 1)
+        };
+        let mut area = Vec::new();
+        let Ok(finds) = list_growing(&file, &mut area, MOST_AREA, &to_host(&asked)) else {
+            return;
+        };
+        let listed = Listed {
+            made: &made,
+            file: &file,
+            asked: &asked,
+            finds: &finds.collect::<Vec<_>>(),
+        };
+        check(&listed, rng);
+    });
 }
 
 #[test]
-fn verdict_list_and_run_agree() {
-    let (isolated, reached, listed) = (Cell::new(0), Cell::new(0), Cell::new(0));
-    cases(6_000_000, 10_000, |rng| {
-        let made = any(rng);
-        let file = write(&made);
-        let asked = to_host(&Query {
-            budget: 20_000,
-            ..query(rng, &made, 1)
-        });
-        let mut area = Vec::new();
-        let Ok(finds) = list_growing(&file, &mut area, MOST_AREA, &asked) else {
-            return;
-        };
-        let finds: Vec<Find> = finds.collect();
-        let fabric = Fabric::read(&file).unwrap();
-        let target = asked.port as u16;
-        finds
-            .iter()
-            .take(200)
-            .for_each(|find| arrives(&file, find, &asked));
-        let first_foreign = finds.iter().find(|find| is_foreign(&fabric, find, target));
-        match verdict(&file, &asked).unwrap() {
+fn finds_arrive_by_their_own_ways() {
+    let (listed, tied) = (Seen::default(), Seen::default());
+    on_lists(6_000_000, |list, rng| {
+        for find in list.finds.iter().take(MOST_FINDS) {
+            for header in [find.set.lowest(), one_of(&find.set, rng)] {
+                tied.add(list.arrives(find, &header).into());
+            }
+        }
+        listed.add(list.finds.len());
+    });
+    listed.at_least(10_000);
+    tied.at_least(10_000);
+}
+
+#[test]
+fn every_way_is_in_one_find() {
+    let (once, twice) = (Seen::default(), Seen::default());
+    on_lists(6_100_000, |list, rng| {
+        for _ in 0..10 {
+            let asked = packet(rng, list.made);
+            let near = (asked.port as u16, Header(asked.value));
+            let found = rng.pick(list.finds);
+            let found = found.map(|find| (find.port, one_of(&find.set, rng)));
+            let (port, header) = found.filter(|_| rng.once_in(2)).unwrap_or(near);
+            if list.made.edge(port.into()).is_some() {
+                let finds = list.is_in_as_many_finds(port, &header);
+                once.add((finds == 1).into());
+                twice.add((finds > 1).into());
+            }
+        }
+    });
+    once.at_least(5000);
+    twice.at_least(1000);
+}
+
+#[test]
+fn the_verdict_is_the_first_foreign_find() {
+    let (isolated, reached) = (Seen::default(), Seen::default());
+    on_lists(6_200_000, |list, _| {
+        let fabric = Fabric::read(list.file).unwrap();
+        let target = list.asked.port as u16;
+        let mut finds = list.finds.iter();
+        let first_foreign = finds.find(|find| is_foreign(&fabric, find, target));
+        match verdict(list.file, &to_host(list.asked)).unwrap() {
             Verdict::Isolated { .. } => {
                 assert_eq!(first_foreign, None);
-                isolated.set(isolated.get() + 1);
+                isolated.add(1);
             }
             Verdict::Reached {
                 port,
@@ -73,15 +171,15 @@ fn verdict_list_and_run_agree() {
                 entries,
                 ..
             } => {
-                let find = the_find(&finds, port, &header);
-                assert_eq!(Some(find), first_foreign);
-                assert_eq!((find.hops, find.entries), (hops, entries));
-                reached.set(reached.get() + 1);
+                let by_them = |find: &&Find| find.entries == entries && find.hops == hops;
+                let shown: Vec<&Find> = list.holding(port, &header).filter(by_them).collect();
+                assert_eq!(shown.len(), 1, "the packet is in one find by its way");
+                assert_eq!(Some(shown[0]), first_foreign);
+                reached.add(1);
             }
             other => panic!("{other:?} is no verdict of document 01"),
         }
-        listed.set(listed.get() + finds.len());
     });
-    let replayed = isolated.get() + reached.get() <= 1;
-    assert!(replayed || isolated.get() > 500 && reached.get() > 500 && listed.get() > 10_000);
+    isolated.at_least(500);
+    reached.at_least(500);
 }

@@ -2,14 +2,14 @@
 
 mod common;
 
-use std::cell::Cell;
-
-use common::{agreed, checks, VERDICT};
+use common::{agreed, checks, Seen, VERDICT};
 use mwishovala::{verdict, Verdict};
 use reference::examples::{fabric_f, wild_query};
 use reference::file::write;
 use reference::random::{any, campus, cases, deep_ring, query, twenty_denies, Rng};
-use reference::Query;
+use reference::set::from_words;
+use reference::ways::{Packet, LEFT, TIED};
+use reference::{Fabric, Query};
 
 /// Mostly room for the answer, also none.
 fn some_length(rng: &mut Rng) -> usize {
@@ -19,22 +19,51 @@ fn some_length(rng: &mut Rng) -> usize {
     }
 }
 
+/// What is shown arrives by its own entries; its run may be tied.
 #[test]
 fn random_fabrics() {
-    let (isolated, reached) = (Cell::new(0), Cell::new(0));
+    let [isolated, reached, tied]: [Seen; 3] = Default::default();
     cases(3_000_000, 15_000, |rng| {
         let fabric = any(rng);
         let file = write(&fabric);
         for _ in 0..4 {
             let asked = query(rng, &fabric, 20_000);
-            if let Ok(words) = agreed(VERDICT, &file, some_length(rng), &asked) {
-                let seen = if words[0] == 0 { &isolated } else { &reached };
-                seen.set(seen.get() + 1);
+            let Ok(words) = agreed(VERDICT, &file, some_length(rng), &asked) else {
+                continue;
+            };
+            match words[0] {
+                0 => isolated.add(1),
+                _ => {
+                    let fate = arrives_by_its_entries(&fabric, &asked, &words);
+                    reached.add(1);
+                    tied.add((fate == TIED).into());
+                }
             }
         }
     });
-    let replayed = isolated.get() + reached.get() <= 4;
-    assert!(replayed || isolated.get() > 1000 && reached.get() > 1000);
+    for seen in [isolated, reached, tied] {
+        seen.at_least(1000);
+    }
+}
+
+/// Follows the packet along the entries shown, and gives its run's fate.
+fn arrives_by_its_entries(fabric: &Fabric, asked: &Query, words: &[u32]) -> u32 {
+    let packet = Packet {
+        fabric,
+        start: words[2] as u16,
+        header: from_words([words[4], words[5], words[6], words[7]]),
+        limit: asked.limit,
+    };
+    let entries = &words[8..][..words[3] as usize];
+    let way = packet.follow(entries).expect("each entry may take it");
+    assert!(way.arrives(asked));
+    let run = packet.run();
+    assert!(entries.starts_with(&run.entries));
+    match run.fate {
+        Some(LEFT) => assert_eq!(run, way),
+        fate => assert_eq!(fate, Some(TIED)),
+    }
+    run.fate.unwrap()
 }
 
 #[test]

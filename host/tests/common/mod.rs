@@ -10,6 +10,8 @@ mod query;
 
 pub use query::to_host;
 
+use std::cell::Cell;
+
 use mwishovala::{raw, QUERY_NUMBERS};
 use reference::calls::{read_answer, Answer};
 use reference::Query;
@@ -130,4 +132,20 @@ impl Guarded {
 
 fn guard_byte(place: usize) -> u8 {
     (place * 31 + 0x50) as u8
+}
+
+/// How often something was seen.
+#[derive(Default)]
+pub struct Seen(Cell<usize>);
+
+impl Seen {
+    pub fn add(&self, number: usize) {
+        self.0.set(self.0.get() + number);
+    }
+
+    /// Fails if it was seen too little, unless a single seed was asked for.
+    pub fn at_least(&self, floor: usize) {
+        let seen = self.0.get();
+        assert!(seen >= floor || std::env::var("SEED").is_ok(), "{seen}");
+    }
 }
