@@ -69,8 +69,11 @@ fn panel(name: &'static str, sizes: &[u16], make: fn(u16) -> Fabric) -> Panel {
     Panel { name, points }
 }
 
+/// Entries at an in-port of `by_entries`.
+const ROUTES: u16 = 16;
+
 /// As many entries, 16 at each in-port, all to the target: routes that differ
-/// in their prefix, so that no beater meets them.
+/// in their prefix, so that no beater meets them. Those before beat.
 fn by_entries(number: u16) -> Fabric {
     let mut fabric = two_edges();
     for number in 0..number {
@@ -80,7 +83,7 @@ fn by_entries(number: u16) -> Fabric {
         };
         fabric.entries.push(Entry {
             matching: route,
-            ..entry(1, 100 + number / 16, TARGET)
+            ..entry(ROUTES - number % ROUTES, 100 + number / ROUTES, TARGET)
         });
     }
     fabric
