@@ -1,7 +1,7 @@
 //! Equal priorities, for document 02's 2.3. Port 1 is where packets start, port
 //! 2 the target; where there is a link, it leads from 10 to 11.
 
-use super::{edge, entry, fabric, link, tp_dst};
+use super::{edge, entry, fabric, link, to_tp_dst, tp_dst};
 use crate::fabric::Fabric;
 use crate::set::Set;
 
@@ -27,10 +27,11 @@ pub fn equals_below() -> Fabric {
     fabric(&[edge(1, 1), edge(2, 2)], &[link(10, 11)], &entries)
 }
 
-/// Entry 0 sends all over the link. There, entry 1 sends all out at 2, and its
-/// equal, entry 2, drops all.
+/// Entry 0 sends all over the link, with tp_dst 5. There, entry 1 sends all out
+/// at 2, and its equal, entry 2, drops all.
 pub fn equals_behind_a_link() -> Fabric {
-    let entries = [entry(7, 1, 10), entry(7, 11, 2), entry(7, 11, 0)];
+    let mut entries = [entry(7, 1, 10), entry(7, 11, 2), entry(7, 11, 0)];
+    entries[0].rewrite = to_tp_dst(5);
     fabric(&[edge(1, 1), edge(2, 2)], &[link(10, 11)], &entries)
 }
 
