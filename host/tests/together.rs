@@ -40,11 +40,15 @@ impl Listed<'_> {
     fn arrives(&self, find: &Find, header: &Header) -> bool {
         let entries = numbers(find);
         let way = self.packet(find.port, header).follow(&entries);
-        assert!(way.expect("each may take it").arrives(self.asked));
+        let way = way.expect("each entry may take it");
+        assert!(way.arrives(self.asked));
         assert_eq!(find.hops as usize, entries.len());
         let run = run(self.file, find.port.into(), *header, self.asked.limit).unwrap();
         match run.fate {
-            Fate::Left => assert_eq!(run.entries, find.entries),
+            Fate::Left => {
+                assert_eq!((run.hops, run.entries), (find.hops, find.entries));
+                assert_eq!((run.port, from_words(run.header.0)), (way.port, way.header));
+            }
             Fate::Tied => assert!(run.hops < find.hops && find.entries.starts_with(&run.entries)),
             fate => panic!("{fate:?}, and it arrives"),
         }
