@@ -25,7 +25,7 @@ pub const MOST_FILE_BYTES: usize = LEAST_FILE_BYTES
 
 const START_WORDS: usize = 1;
 
-/// The least stack of a thread that makes calls: 408 KiB were measured for 16
+/// The least stack of a thread that makes calls: 392 KiB were measured for 16
 /// hops of 63 beaters each, the most that a fabric can have, and the rest is
 /// margin.
 pub const STACK_BYTES: usize = 512 << 10;

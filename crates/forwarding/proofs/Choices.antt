@@ -58,7 +58,9 @@ module _ (f : Fabric) (p : ℕ) (h : Header) where
       go : (l : List ℕ) → takers f x g ≡ l → Reached (forwarded f x g r l)
       go [] q = untaken x g r c q
       go (e ∷ []) q = on (outPortOf f e) _ _ _ (taken e x g r c (first-of _ (f .entries) 0 e [] q .passes))
-      go (e ∷ d ∷ l) q = record { can-be = c; several = record { first = e; second = d; rest = l; is = q } }
+      go (e ∷ d ∷ l) q =
+          let tie : Tie f p h x g r = record { can-be = c; several = record { first = e; second = d; rest = l; is = q } } in
+          tie
 
   run-reached : (k : ℕ) → Reached (run f k p h)
   unfolding Reached run
@@ -169,5 +171,5 @@ module _ (f : Fabric) (p : ℕ) (h : Header) where
 
   pub some-end : (k : ℕ) → (s : Packet) × CanEnd f k p h s
   unfolding EndsIn
-  some-end zero = (travelling p h [], record { can-be = started; ends = refl })
+  some-end zero = (travelling p h [], record { can-be = started; ends = omega arith })
   some-end (suc k) = let c = some-end k in one-hop-more k (c .0) (c .1)

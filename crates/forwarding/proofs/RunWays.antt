@@ -28,11 +28,14 @@ module _ (f : Fabric) (sound : Sound f) (p : ℕ) (h : Header) where
   went started = refl
   went (taken e x g r c t) = on (outPortOf f e) (f .linkTo (outPortOf f e)) refl refl (went c)
     where
+      took : takes f e x g ≡ true
+      took = t
+
       on : (o z : ℕ) → outPortOf f e ≡ o → f .linkTo (outPortOf f e) ≡ z → stands f p h r ≡ at x g
           → Went (sentOut f x o z (applied f e g) (e ∷ r))
       on zero z a b d = tt
-      on (suc o) zero a b d = rw (d, t) (ap (λ (o : ℕ). at o (applied f e g)) a)
-      on (suc o) (suc z) a b d = rw (d, t) (ap (λ (z : ℕ). toPort f z (applied f e g)) b)
+      on (suc o) zero a b d = rw (d, took) (ap (λ (o : ℕ). at o (applied f e g)) a)
+      on (suc o) (suc z) a b d = rw (d, took) (ap (λ (z : ℕ). toPort f z (applied f e g)) b)
   went (untaken x g r c t) = tt
 
   -- ---- and each way leads to what it can become

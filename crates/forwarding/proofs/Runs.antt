@@ -57,7 +57,7 @@ module _ (f : Fabric) where
   -- a run of at most k hops ends within them
   pub run-ends : (k p : ℕ) (h : Header) → EndsIn k (run f k p h)
   unfolding EndsIn run
-  run-ends zero p h = refl
+  run-ends zero p h = omega arith
   run-ends (suc k) p h = ends-hop k (run f k p h) (run-ends k p h)
 
   pub hops-within : (k p : ℕ) (h : Header) → hopsMade (run f k p h) ≤ k

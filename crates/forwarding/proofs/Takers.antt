@@ -17,7 +17,7 @@ use Rattle.forwarding.specs.Run.{unbeaten, takes}
 module _ (f : Fabric) (a b : ℕ) where
   pub higher-beats : inPortOf f a ≡ inPortOf f b → priorityOf f b < priorityOf f a → beats f a b ≡ true
   unfolding beats
-  higher-beats p l = rw (eq-eqb _ _ p, lt-ltb (priorityOf f b) (priorityOf f a) l)
+  higher-beats p l = ap₂ _&&_ (eq-eqb _ _ p) (lt-ltb (priorityOf f b) (priorityOf f a) l)
 
   pub record Beats : Type 0 where
     pub port : inPortOf f a ≡ inPortOf f b
