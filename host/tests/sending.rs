@@ -1,43 +1,19 @@
 //! Beside a packet that no host sends stands one that can be sent, and beside a
 //! hop limit whether links could lead further.
 
+#[path = "common/asked.rs"]
+mod asked;
 #[path = "common/command.rs"]
 mod command;
 #[path = "common/json.rs"]
 mod json;
 
 use std::cell::Cell;
-use std::fs;
-use std::path::Path;
 
+use asked::{answered, in_words, judged, with};
 use command::{folder, ran};
-use json::{parse, Value};
-use reference::file::write;
+use json::Value;
 use reference::random::{any, cases};
-
-/// A folder with this text as `fabric`.
-fn with(name: &str, text: &str) -> std::path::PathBuf {
-    let folder = folder(name);
-    fs::write(folder.join("text"), text).unwrap();
-    assert_eq!(ran(&folder, "pack text fabric").status, 0);
-    folder
-}
-
-fn answered(folder: &Path, line: &str) -> Value {
-    parse(ran(folder, line).text()).unwrap()
-}
-
-/// A header as the command line takes it.
-fn in_words(header: &Value) -> String {
-    let Value::Object(fields) = header else {
-        panic!("{header:?} is no header");
-    };
-    let fields = fields.iter().map(|(name, value)| match value {
-        Value::Text(text) => format!("{name}={text}"),
-        other => format!("{name}={}", other.number().unwrap()),
-    });
-    fields.collect::<Vec<_>>().join(",")
-}
 
 const EDGES: &str = "edge 1 group 7 admits any\nedge 2 group 9 admits any\n";
 
@@ -110,12 +86,7 @@ fn what_can_be_sent_arrives() {
     let (sent, stopped) = (Cell::new(0), Cell::new(0));
     cases(9_400_000, 300, |rng| {
         let fabric = any(rng);
-        fs::write(folder.join("fabric"), write(&fabric)).unwrap();
-        let port = rng.pick(&fabric.edges).map_or(1, |edge| edge.port);
-        let answer = answered(
-            &folder,
-            &format!("verdict fabric {port} --budget 5000 --json"),
-        );
+        let (port, answer) = judged(&folder, &fabric, rng);
         let sendable = answer
             .get("sendable")
             .filter(|header| **header != Value::Null);

@@ -1,6 +1,8 @@
 //! The command where entries of the same priority leave a choice: what it says
 //! of a way, of a packet that stops there, and of the fabric.
 
+#[path = "common/asked.rs"]
+mod asked;
 #[path = "common/command.rs"]
 mod command;
 #[path = "common/json.rs"]
@@ -8,10 +10,11 @@ mod json;
 
 use std::cell::Cell;
 use std::fs;
-use std::path::{Path, PathBuf};
+use std::path::PathBuf;
 
+use asked::{answered, in_words, judged};
 use command::{folder, ran};
-use json::{parse, Value};
+use json::Value;
 use mwishovala::MOST_PARTS;
 use reference::file::write;
 use reference::random::{any, cases, ties, Rng};
@@ -36,14 +39,7 @@ const TWO_SWITCHES: &str = "\
 
 /// A folder with these edges and lines as `fabric`.
 fn with(name: &str, lines: &str) -> PathBuf {
-    let folder = folder(name);
-    fs::write(folder.join("text"), format!("{EDGES}{lines}")).unwrap();
-    assert_eq!(ran(&folder, "pack text fabric").status, 0);
-    folder
-}
-
-fn answered(folder: &Path, line: &str) -> Value {
-    parse(ran(folder, line).text()).unwrap()
+    asked::with(name, &format!("{EDGES}{lines}"))
 }
 
 fn numbers(value: &Value) -> Vec<u64> {
@@ -274,18 +270,6 @@ fn ties_are_pointed_out() {
     check_ties(isolated.text(), "");
 }
 
-/// A header as the command line takes it.
-fn in_words(header: &Value) -> String {
-    let Value::Object(fields) = header else {
-        panic!("{header:?} is no header");
-    };
-    let fields = fields.iter().map(|(name, value)| match value {
-        Value::Text(text) => format!("{name}={text}"),
-        other => format!("{name}={}", other.number().unwrap()),
-    });
-    fields.collect::<Vec<_>>().join(",")
-}
-
 /// The ones above hold every header, in parts that are too many to look at.
 #[test]
 fn what_may_tie_is_told() {
@@ -378,12 +362,7 @@ fn equals_are_the_other_takers() {
     let (chosen, alone) = (Cell::new(0), Cell::new(0));
     cases(13_400_000, 300, |rng| {
         let fabric = tied_fabric(rng);
-        fs::write(folder.join("fabric"), write(&fabric)).unwrap();
-        let port = rng.pick(&fabric.edges).map_or(1, |edge| edge.port);
-        let answer = answered(
-            &folder,
-            &format!("verdict fabric {port} --budget 5000 --json"),
-        );
+        let (_, answer) = judged(&folder, &fabric, rng);
         let Some(header) = answer.get("header") else {
             return;
         };
