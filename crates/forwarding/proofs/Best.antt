@@ -1,5 +1,5 @@
--- The entries that may take a header, found by one pass over the entries that keeps the first of the highest priority so far, and whether
--- another has the same. Assumes nothing.
+-- The entries that may take a header, found by one pass over the entries that keeps one of the highest priority so far, and whether
+-- another has the same.
 use mathlib.Core.Bool.{Bool, true, false, not, _&&_, true≢false, false≢true}
 use mathlib.Core.List.{List, [], _∷_, List·Memᴰ, List·Memᴰ·not-nil, List·Memᴰ·eq-of-singleton}
 use mathlib.Core.Path.{_≡_, refl, sym, ap, ap₂, _∙_, subst}

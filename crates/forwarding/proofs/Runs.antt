@@ -1,6 +1,6 @@
--- A run: what a hop depends on, how many hops are made, and that a packet at its end stays there. Assumes nothing.
-use mathlib.Core.List.{List, [], _∷_, _++_}
-use mathlib.Core.Path.{_≡_, refl, sym, ap, _∙_}
+-- A run: where it is tied, how many hops are made, and that a packet at its end stays there.
+use mathlib.Core.List.{List, [], _∷_}
+use mathlib.Core.Path.{_≡_, sym, ap, _∙_}
 use Prim.Native.Nat.{ℕ, zero, suc, _≤_}
 use native.Mathlib.Decide.{ℕ-discrete}
 use native.Mathlib.Omega.{arith}
@@ -8,31 +8,15 @@ use Rattle.headers.specs.Sets.{Header}
 use Rattle.forwarding.specs.Fabric.{Fabric, outPortOf}
 use Rattle.forwarding.specs.Run.{Packet, left, dropped, lost, travelling, tied, takers, sentOut, forwarded, hop, run, takenBy}
 use Rattle.forwarding.specs.Run.{hopsMade}
-use Rattle.forwarding.specs.Choices.{EndsIn}
-
--- a packet that other entries took before
-unfoldable pub before : List ℕ → Packet → Packet
-before q (left o h r) = left o h (r ++ q)
-before q (dropped x h r) = dropped x h (r ++ q)
-before q (lost x h r) = lost x h (r ++ q)
-before q (travelling x h r) = travelling x h (r ++ q)
-before q (tied x h r) = tied x h (r ++ q)
+use Rattle.forwarding.specs.Choices.{Several, EndsIn}
 
 module _ (f : Fabric) where
-  -- where a hop leads depends on the port and the header alone
-  pub hop-depends : (x : ℕ) (h : Header) (q : List ℕ) → hop f (travelling x h q) ≡ before q (hop f (travelling x h []))
-  unfolding hop before
-  hop-depends x h q = go (takers f x h)
-    where
-      on : (o z e : ℕ) (g : Header) → sentOut f x o z g (e ∷ q) ≡ before q (sentOut f x o z g (e ∷ []))
-      on zero z e g = refl
-      on (suc o) zero e g = refl
-      on (suc o) (suc z) e g = refl
+  -- ---- ties
 
-      go : (l : List ℕ) → forwarded f x h q l ≡ before q (forwarded f x h [] l)
-      go [] = refl
-      go (e ∷ []) = on (outPortOf f e) _ e _
-      go (e ∷ d ∷ l) = refl
+  -- W16: where several entries may take the packet, the run is tied
+  pub several-tied : (x : ℕ) (h : Header) (r : List ℕ) → Several (takers f x h) → hop f (travelling x h r) ≡ tied x h r
+  unfolding hop
+  several-tied x h r s = ap (forwarded f x h r) (s .is)
 
   -- ---- hops
 

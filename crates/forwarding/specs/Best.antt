@@ -1,4 +1,4 @@
--- The entries that may take a header, as one pass over them finds them: the first of the highest so far, and whether it has a rival.
+-- The entries that may take a header, as one pass over them finds them: one of the highest so far, and whether it has a rival.
 use mathlib.Core.Bool.{Bool, true, false, _&&_}
 use mathlib.Core.Path.{_≡_}
 use Prim.Native.Nat.{ℕ, _≤_, _<_}
@@ -19,7 +19,7 @@ module _ (f : Fabric) (x : ℕ) (h : Header) where
     pub is-candidate : candidate number ≡ true
     pub equal : priorityOf f number ≡ priorityOf f b
 
-  -- b is the first of the highest candidates below i, the number of entries where there is none; t says whether it has a rival
+  -- b is one of the highest candidates below i, the number of entries where there is none; t says whether it has a rival
   pub record BestSoFar (i b : ℕ) (t : Bool) : Type 0 where
     pub nothing : ¬ (b < f .entries) → (j : ℕ) → j < i → candidate j ≡ false
     pub below : b < f .entries → b < i

@@ -32,7 +32,7 @@ pub record Fabric : Type 0 where
   pub linkTo : ℕ → ℕ
   pub linkFrom : ℕ → ℕ
 
--- W1's rank, since 2.3: an entry of priority p, not one of the same priority that stands earlier, outranks one of priority q
+-- W1: of two entries at one in-port, that of priority p outranks that of priority q; where they stand in the file plays no part
 abbrev pub outranks : ℕ → ℕ → Bool
 outranks p q = ltb q p
 

@@ -14,7 +14,7 @@ pub fn outranks(p: u32, q: u32) -> bool
     q < p
 }
 
-// The first of the highest entries that match so far, and whether another of its priority does; the number of entries stands for 'none'.
+// One of the highest entries that match so far, and whether another of its priority does; the number of entries stands for 'none'.
 pub struct Best {
     pub entry: usize,
     pub tied: bool,
