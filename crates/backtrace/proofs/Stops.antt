@@ -13,6 +13,7 @@ use Rattle.headers.specs.Bits.{positions, those}
 use Rattle.headers.specs.Sets.{Set}
 use Rattle.headers.specs.Forms.{setOf, maybeOf}
 use Rattle.headers.specs.declared.MaybeSet.{MaybeSet}
+use Rattle.headers.proofs.Answers.{maybe-none, maybe-some}
 use Rattle.forwarding.specs.Fabric.{outPortOf}
 use Rattle.forwarding.specs.BackTrace.{beaters}
 use Rattle.forwarding.specs.BackTrace as BackTrace
@@ -24,7 +25,6 @@ use Rattle.index.proofs.Chained.{Next}
 use Rattle.entries.specs.Entries.{IsEntry, InChain, backFrom, NextBeater}
 use Rattle.entries.proofs.Those.{from, from-here, from-end, from-skip}
 use Rattle.entries.proofs.Entries.{entries-few, back-is}
-use Rattle.entries.proofs.Backs.{maybe-none, maybe-some}
 use Rattle.entries.proofs.InChains.{chain-head, chain-next, next-in-chain}
 use Rattle.entries.proofs.Beaters.{beaters-all}
 use Rattle.events.specs.Play.{play}

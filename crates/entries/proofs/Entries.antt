@@ -1,14 +1,14 @@
 -- An entry's own bytes of an accepted file, and what the file's fabric says of that entry. Assumes nothing.
 use mathlib.Core.List.{List}
-use mathlib.Core.Option.{bind}
 use mathlib.Core.Path.{_≡_, refl, ap, _∙_}
 use Prim.Native.Nat.{ℕ, _+_, _-_, _*_, _≤_, _<_}
 use native.Mathlib.Omega.{arith}
 use borrow.Author.Tests.{lt-ltb}
 use lib.ListN.{length, take, drop}
-use Rattle.headers.specs.Sets.{Set, WellFormed, undone, intersection}
+use Rattle.headers.specs.Sets.{Set, WellFormed}
+use Rattle.headers.specs.Actions.{before}
 use Rattle.records.specs.Words.{bytesFrom}
-use Rattle.records.specs.Records.{headerWords, entryWords, entryIn, entryPriority, entryMatch, placeOf}
+use Rattle.records.specs.Records.{headerWords, entryWords, entryIn, entryPriority, entryMatch, entryAction, placeOf}
 use Rattle.records.specs.declared.Shape.{Shape}
 use Rattle.file.proofs.Accepted.{few-entries, entry-inside, entry-of}
 use Rattle.forwarding.specs.Fabric.{Entry, inPortOf, priorityOf, undoes}
@@ -77,7 +77,7 @@ module _ {f : List ℕ} (a : AFabric f) where
 
     -- what the entry takes at its in-port and makes into headers of t
     pub back-is : (t : Set) → back (fabricIn f) e t ≡ backFrom x t
-    unfolding back undoes backFrom
+    unfolding back undoes before
     back-is t =
-        ap (λ (y : Entry). bind (undone (fabricIn f .words) (y .rewrite) t) (λ s. intersection (fabricIn f .words) s (y .matches))) entry-is
-        ∙ ap (λ (n : ℕ). bind (undone n (entryFrom x .rewrite) t) (λ s. intersection n s (entryMatch x))) (four-words f)
+        ap (λ (y : Entry). before (fabricIn f .words) (y .matches) (y .action) t) entry-is
+        ∙ ap (λ (n : ℕ). before n (entryMatch x) (entryAction x) t) (four-words f)

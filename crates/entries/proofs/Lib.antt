@@ -1,5 +1,4 @@
 pub mod Those
 pub mod Entries
-pub mod Backs
 pub mod InChains
 pub mod Beaters

@@ -1,12 +1,13 @@
 -- What is promised of an entry of an accepted file: its own bytes, what it takes back to, and its beaters. Assumes nothing.
 use mathlib.Core.Bool.{true, false}
 use mathlib.Core.List.{List}
-use mathlib.Core.Option.{Option, bind}
+use mathlib.Core.Option.{Option}
 use mathlib.Core.Path.{_≡_}
 use Prim.Native.Nat.{ℕ, _-_, _≤_, _<_}
 use Rattle.headers.specs.Bits.{positions, those}
-use Rattle.headers.specs.Sets.{Set, intersection, undone}
-use Rattle.records.specs.Records.{headerWords, entryMatch, entryRewrite, entryBytes}
+use Rattle.headers.specs.Sets.{Set}
+use Rattle.headers.specs.Actions.{before}
+use Rattle.records.specs.Records.{headerWords, entryMatch, entryAction, entryBytes}
 use Rattle.forwarding.specs.Fabric.{Fabric, inPortOf, beats}
 use Rattle.model.specs.Model.{AFabric, fabricIn, shapeIn, entriesAt}
 use Rattle.index.specs.Chains.{noEntry}
@@ -33,9 +34,9 @@ pub record InChain (portOf : ℕ → ℕ) (n p e : ℕ) : Type 0 where
 abbrev pub SameInPort : List ℕ → ℕ → ℕ → Type 0
 SameInPort f e j = InChain (inPortOf (fabricIn f)) (fabricIn f .entries) (inPortOf (fabricIn f) e) j
 
--- "Undo the rewrite for T and intersect with the match", from an entry's own bytes
-unfoldable pub backFrom : List ℕ → Set → Option Set
-backFrom x t = bind (undone headerWords (entryRewrite x) t) (λ s. intersection headerWords s (entryMatch x))
+-- T4: the headers that an entry takes and makes into headers of t, from its own bytes
+abbrev pub backFrom : List ℕ → Set → Option Set
+backFrom x t = before headerWords (entryMatch x) (entryAction x) t
 
 -- ---- beaters
 

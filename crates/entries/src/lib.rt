@@ -41,12 +41,7 @@ pub fn before(x: &[u8], t: HeaderSet) -> MaybeSet
     requires { ⌜ length (now x) ≡ 4 * entryWords ⌝ }
     ensures { λ r. ⌜ r ≡ maybeOf (backFrom (now (x .entry)) (setOf t)) ⌝ }
 {
-    let u = records::action(x).undo(t);
-    if !u.some {
-        return u;
-    }
-    let s = u.set;
-    s.intersect(records::match_set(x))
+    records::action(x).undo(t, records::match_set(x))
 }
 
 // ---- beaters

@@ -9,6 +9,7 @@ use lib.Dec.{leb}
 use lib.ListN.{length}
 use Rattle.headers.specs.Bits.{bit, bitAt, positions, those, setBits, single}
 use Rattle.headers.specs.Sets.{intersection, undone}
+use Rattle.headers.specs.Actions.{unacted}
 use Rattle.headers.specs.Carving.{partsAt, parts, carve}
 use Rattle.answer.specs.Answer.{Outcome, bytesOf, answered, sixteen}
 use Rattle.records.specs.Words.{wordAt, bytesFrom}
@@ -38,7 +39,7 @@ unfolding computingFile bytesFrom shapeIn edgeAt linkBeginning linkEnding fabric
 computingFabric = tt
 
 unfoldable pub computingBack : Unit {0}
-unfolding bit bitAt positions those setBits single partsAt parts carve bind intersection undone undoes back
+unfolding bit bitAt positions those setBits single partsAt parts carve bind intersection undone unacted undoes back
 computingBack = tt
 
 unfoldable pub computingTrace : Unit {0}

@@ -2,3 +2,4 @@ mod Computing
 pub mod Examples
 pub mod Richer
 pub mod Equals
+pub mod Replies

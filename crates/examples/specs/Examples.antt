@@ -4,7 +4,8 @@ use mathlib.Core.Option.{some, none}
 use mathlib.Core.Path.{_≡_}
 use Prim.Native.Nat.{ℕ, _≤_}
 use lib.ListN.{length, replicate}
-use Rattle.headers.specs.Sets.{Set, Rewrite, allWild}
+use Rattle.headers.specs.Sets.{Set, allWild}
+use Rattle.headers.specs.Actions.{Act}
 use Rattle.answer.specs.Answer.{Outcome, bytesOf, refused, answered}
 use Rattle.questions.specs.Questions.{shape, accepted}
 use Rattle.questions.specs.declared.Read.the-variants.{Fabric}
@@ -81,9 +82,9 @@ Always bytes call answer = (area : List ℕ) → bytes ≤ length area → call 
 
 -- ---- one entry traced back
 
--- a fabric with one entry, of this match and rewrite, and no link
-abbrev pub oneEntry : Set → Rewrite → Forwarding.Fabric
-oneEntry matches rewrite = linked 0 0 (entryOf 0 1 2 matches rewrite ∷ [])
+-- a fabric with one entry, of this match and action, and no link
+abbrev pub oneEntry : Set → Act → Forwarding.Fabric
+oneEntry matches action = linked 0 0 (entryOf 0 1 2 matches action ∷ [])
 
 -- ---- the table
 

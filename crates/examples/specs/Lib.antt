@@ -1,3 +1,4 @@
 pub mod Examples
 pub mod Richer
 pub mod Equals
+pub mod Replies

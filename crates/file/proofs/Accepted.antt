@@ -8,10 +8,11 @@ use lib.Dec.{leb, eqb}
 use lib.ListN.{length, getD}
 use borrow.Author.Tests.{eqb-true}
 use Rattle.headers.specs.Sets.{tidy}
-use Rattle.records.specs.Words.{wordAt, wordsIn, bytesFrom, portOf}
+use Rattle.records.specs.Words.{wordAt, wordsIn, bytesFrom, transferOf, portOf}
 use Rattle.records.specs.Records.{headerWords, admittedAt, edgeWords, matchAt, rewriteAt, entryWords, edgePort, entryIn, entryOut, placeOf, portOfEdge, fromOfLink, toOfLink, inOfEntry, edgeBytes, entryBytes, recent}
 use Rattle.records.specs.declared.Shape.{Shape}
 use Rattle.records.proofs.Words.{words-from-fit, part-long, part-word, part-set}
+use Rattle.records.proofs.Transfers.{number-kept}
 use Rattle.questions.specs.Questions.{times, sized}
 use Rattle.questions.specs.Reading.{passedAt}
 use Rattle.questions.proofs.Lists.{none-has, rising, times-within, number-is}
@@ -139,6 +140,7 @@ module _ (f : List ℕ) (s : Shape) (ok : Accepted f s) where
           is-tidy = ap (tidy headerWords) (part-set entryWords headerWords f at matchAt (omega arith)) ∙ y .match-tidy;
         };
         rewrites = record { mask = words-from-fit headerWords x rewriteAt; value = words-from-fit headerWords x (rewriteAt + headerWords) };
+        transfer = number-kept (transferOf (wordAt x 1)) (rw (part-word entryWords f at 1 (omega arith)) (y .transfer));
         rewrite-tidy = ap (tidy headerWords) (part-set entryWords headerWords f at rewriteAt (omega arith)) ∙ y .rewrite-tidy;
       }
 

@@ -6,7 +6,9 @@ use mathlib.Core.Path.{_≡_}
 use Prim.Native.Nat.{ℕ, _*_, _≤_, _<_}
 use lib.ListN.{length}
 use Rattle.headers.specs.Sets.{WellFormed, Written, tidy, writes}
-use Rattle.records.specs.Records.{headerWords, edgeWords, entryWords, edgePort, edgeAdmitted, entryIn, entryOut, entryMatch, entryRewrite}
+use Rattle.records.specs.Words.{wordAt, transferOf}
+use Rattle.records.specs.Records.{headerWords, edgeWords, entryWords, edgePort, edgeAdmitted}
+use Rattle.records.specs.Records.{entryIn, entryOut, entryMatch, entryRewrite, entryAction, numberOf}
 use Rattle.records.specs.declared.Shape.{Shape}
 use Rattle.questions.specs.Questions.{accepted}
 use Rattle.questions.specs.declared.Read.the-variants.{Fabric}
@@ -37,4 +39,6 @@ pub record Entry (x : List ℕ) : Type 0 where
   pub differ : entryIn x ≡ entryOut x → ⊥
   pub matches : WellFormed headerWords (entryMatch x)
   pub rewrites : Written headerWords (entryRewrite x)
+  -- the transfer is the one that the file numbers
+  pub transfer : numberOf (entryAction x .transfer) ≡ transferOf (wordAt x 1)
   pub rewrite-tidy : tidy headerWords (writes (entryRewrite x)) ≡ true

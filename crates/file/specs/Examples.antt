@@ -56,12 +56,17 @@ examples =
     ∷ bytesOf (0x10010003 ∷ 0x31001002 ∷ 0x50000000 ∷ []) gives No 3 1
     ∷ set fabricF (20 * 4 + 2) 1 gives No 3 19
     ∷ bytesOf (0x10010003 ∷ 0x50000000 ∷ 0x50000000 ∷ []) gives No 3 1
-    -- the other ends of the zero bits: of a link, of an entry's second word, and both of an end
+    -- the other ends of the zero bits: of a link, both of an entry's second word, and both of an end
     ∷ bytesOf (0x10010003 ∷ 0x38001002 ∷ 0x50000000 ∷ []) gives No 3 1
     ∷ set fabricF (20 * 4 + 1) 0x10 gives No 3 19
-    ∷ set fabricF (20 * 4 + 3) 0x80 gives No 3 19
+    ∷ set fabricF (20 * 4 + 3) 0x08 gives No 3 19
     ∷ bytesOf (0x10010002 ∷ 0x50000001 ∷ []) gives No 3 1
     ∷ bytesOf (0x10010002 ∷ 0x58000000 ∷ []) gives No 3 1
+    -- an entry that copies, one that swaps, a transfer of the number 3 and of the greatest
+    ∷ set fabricF (20 * 4 + 3) 0x10 gives Fabric (shape 2 0 2)
+    ∷ set fabricF (20 * 4 + 3) 0x20 gives Fabric (shape 2 0 2)
+    ∷ set fabricF (20 * 4 + 3) 0x30 gives No 3 19
+    ∷ set fabricF (20 * 4 + 3) 0xf0 gives No 3 19
     -- port 0; edge ports that do not rise; a link from a port to itself; an entry too
     ∷ set fabricF 4 0 gives No 4 1
     ∷ set fabricF 40 1 gives No 4 10
@@ -78,8 +83,10 @@ examples =
     ∷ bytesOf (0x10010004 ∷ 0x30001009 ∷ 0x30002009 ∷ 0x50000000 ∷ []) gives No 6 2
     ∷ bytesOf (0x1001000c ∷ 0x20001003 ∷ eight ++ (0x30003002 ∷ 0x50000000 ∷ [])) gives No 6 10
     ∷ bytesOf (0x1001000c ∷ 0x20001003 ∷ eight ++ (0x30002003 ∷ 0x50000000 ∷ [])) gives No 6 10
-    -- two questions of one record get a no, and the first is answered: 3 before 4, 4 before 5, 4 before 6
+    -- two questions of one record get a no, and the first is answered: 3 before 4, 4 before 5, 4 before 6, and an
+    -- unknown transfer before an entry from a port to itself
     ∷ bytesOf (0x10010003 ∷ 0x31000000 ∷ 0x50000000 ∷ []) gives No 3 1
+    ∷ set (set fabricF (20 * 4 + 3) 0x30) (20 * 4) 1 gives No 3 19
     ∷ set (set fabricF 4 0) (6 * 4) 1 gives No 4 1
     ∷ bytesOf (0x1001000c ∷ 0x20001003 ∷ eight ++ (0x30003003 ∷ 0x50000000 ∷ [])) gives No 4 10
     -- the 65th edge

@@ -34,6 +34,7 @@ inner a b x false e i d = refl
 
 sound : Sound twoHops
 sound = record {
+  two-words = omega arith;
   zero-no-edge = refl;
   zero-begins-none = refl;
   zero-ends-none = refl;
@@ -51,7 +52,7 @@ sound = record {
     match (suc zero) = record { care = words-by _ refl refl; value = words-by _ refl refl; is-tidy = refl }
     match (suc (suc e)) = all-wild-well-formed 4
 
-    rewrite : (e : ℕ) → Written 4 (twoHops .entry e .rewrite)
+    rewrite : (e : ℕ) → Written 4 (twoHops .entry e .action .rewrite)
     rewrite zero = record { mask = words-by _ refl refl; value = words-by _ refl refl }
     rewrite (suc zero) = record { mask = words-by _ refl refl; value = words-by _ refl refl }
     rewrite (suc (suc e)) = record { mask = words-by _ refl refl; value = words-by _ refl refl }

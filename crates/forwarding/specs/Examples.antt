@@ -7,7 +7,9 @@ use Prim.Native.Nat.{ℕ}
 use lib.Dec.{eqb}
 use lib.ListN.{length, getD}
 use Rattle.headers.specs.Bits.{bit, bitAt, positions, those, setBits, single}
-use Rattle.headers.specs.Sets.{Header, Set, Rewrite, allWild, noRewrite, intersection, undone}
+use Rattle.headers.specs.Sets.{Header, Set, allWild, intersection, undone}
+use Rattle.headers.specs.Actions.{Act, noAction, unacted}
+use Rattle.headers.specs.declared.Transfer.the-variants.{Keep}
 use Rattle.headers.specs.Carving.{partsAt, parts, carve, holders}
 use Rattle.forwarding.specs.Fabric.{Entry, Fabric, holds, beats, applied, undoes}
 use Rattle.forwarding.specs.Run.{Packet, left, dropped, travelling, tied, unbeaten, takes, takers, hop, run}
@@ -25,17 +27,17 @@ set care value = record { care = care; value = value }
 abbrev pub tpDst : ℕ → Set
 tpDst port = set (header 0 0 0xffff 0) (header 0 0 port 0)
 
-abbrev pub setTpDst : ℕ → Rewrite
-setTpDst port = record { mask = header 0 0 0xffff 0; value = header 0 0 port 0 }
+abbrev pub setTpDst : ℕ → Act
+setTpDst port = record { transfer = Keep; rewrite = record { mask = header 0 0 0xffff 0; value = header 0 0 port 0 } }
 
--- priority, in-port, out-port, match and rewrite
-abbrev pub entryOf : ℕ → ℕ → ℕ → Set → Rewrite → Entry
-entryOf priority inPort outPort matches rewrite = record {
+-- priority, in-port, out-port, match and action
+abbrev pub entryOf : ℕ → ℕ → ℕ → Set → Act → Entry
+entryOf priority inPort outPort matches action = record {
   priority = priority;
   inPort = inPort;
   outPort = outPort;
   matches = matches;
-  rewrite = rewrite;
+  action = action;
 }
 
 -- edge port 1 of group 7 and edge port 2 of group 9, both with an all-wild admitted set, one link and these entries
@@ -43,7 +45,7 @@ abbrev pub linked : ℕ → ℕ → List Entry → Fabric
 linked from to l = record {
   words = 4;
   entries = length l;
-  entry = λ e. getD l e (entryOf 0 0 0 (allWild 4) (noRewrite 4));
+  entry = λ e. getD l e (entryOf 0 0 0 (allWild 4) (noAction 4));
   isEdge = λ x. eqb x 1 || eqb x 2;
   group = λ x. cond (eqb x 1) 7 9;
   admitted = λ x. allWild 4;
@@ -57,7 +59,7 @@ fabric l = linked 0 0 l
 
 -- What the examples compute with: to open it is to open all that its line names.
 computingSets : Unit {0}
-unfolding bit bitAt positions those setBits single partsAt parts carve holders intersection undone
+unfolding bit bitAt positions those setBits single partsAt parts carve holders intersection undone unacted
 computingSets = tt
 
 computingRun : Unit {0}
@@ -76,8 +78,8 @@ computing = tt
 
 abbrev F : Fabric
 F = fabric
-    (entryOf 20 1 0 (set (header 0 0 3 0) (header 0 0 1 0)) (noRewrite 4)
-    ∷ entryOf 10 1 2 (set (header 0 0xffffffff 0 0) (header 0 0x0a000002 0 0)) (noRewrite 4)
+    (entryOf 20 1 0 (set (header 0 0 3 0) (header 0 0 1 0)) (noAction 4)
+    ∷ entryOf 10 1 2 (set (header 0 0xffffffff 0 0) (header 0 0x0a000002 0 0)) (noAction 4)
     ∷ [])
 
 -- "list, target 2, limit 1, budget 2, all wild"
@@ -119,7 +121,7 @@ E5 = refl
 -- entry 0 writes tp_dst 5 and sends from edge port 1 to port 3, from which a link leads to port 4, where entry 1 takes tp_dst 5 to
 -- edge port 2
 abbrev pub twoHops : Fabric
-twoHops = linked 3 4 (entryOf 10 1 3 (allWild 4) (setTpDst 5) ∷ entryOf 10 4 2 (tpDst 5) (noRewrite 4) ∷ [])
+twoHops = linked 3 4 (entryOf 10 1 3 (allWild 4) (setTpDst 5) ∷ entryOf 10 4 2 (tpDst 5) (noAction 4) ∷ [])
 
 pub two-hops-back : trace twoHops 2 2 (allWild 4) ≡ unit ∷ unit ∷ find (record { port = 1; path = 0 ∷ 1 ∷ []; set = allWild 4 }) ∷ []
 unfolding computing
@@ -141,7 +143,7 @@ one-hop = refl
 
 -- two entries of one priority: entry 0 drops tp_dst 22, entry 1 sends all to edge port 2
 abbrev tie : Fabric
-tie = fabric (entryOf 10 1 0 (tpDst 22) (noRewrite 4) ∷ entryOf 10 1 2 (allWild 4) (noRewrite 4) ∷ [])
+tie = fabric (entryOf 10 1 0 (tpDst 22) (noAction 4) ∷ entryOf 10 1 2 (allWild 4) (noAction 4) ∷ [])
 
 -- W16: where both may take the packet, the run stops before the hop
 tie-run : run tie 1 1 (header 0 0 22 0) ≡ tied 1 (header 0 0 22 0) []
@@ -165,7 +167,7 @@ tie-verdict = refl
 
 -- two entries of one priority that both send to edge port 2: one pair, two ways, two finds
 abbrev twoWays : Fabric
-twoWays = fabric (entryOf 10 1 2 (allWild 4) (noRewrite 4) ∷ entryOf 10 1 2 (tpDst 22) (noRewrite 4) ∷ [])
+twoWays = fabric (entryOf 10 1 2 (allWild 4) (noAction 4) ∷ entryOf 10 1 2 (tpDst 22) (noAction 4) ∷ [])
 
 two-ways-back : trace twoWays 1 2 (tpDst 22)
     ≡ unit
@@ -184,9 +186,9 @@ two-ways-run = refl
 -- W2: equals below a higher entry that holds the packet don't count
 abbrev equalsBelow : Fabric
 equalsBelow = fabric
-    (entryOf 10 1 0 (allWild 4) (noRewrite 4)
-    ∷ entryOf 10 1 0 (allWild 4) (noRewrite 4)
-    ∷ entryOf 20 1 2 (tpDst 22) (noRewrite 4)
+    (entryOf 10 1 0 (allWild 4) (noAction 4)
+    ∷ entryOf 10 1 0 (allWild 4) (noAction 4)
+    ∷ entryOf 20 1 2 (tpDst 22) (noAction 4)
     ∷ [])
 
 below-run : run equalsBelow 1 1 (header 0 0 22 0) ≡ left 2 (header 0 0 22 0) (2 ∷ [])
@@ -200,9 +202,9 @@ beside-run = refl
 -- W10: two equals behind a link. At the limit the packet is still travelling, whatever stands there; with a hop left the run is tied.
 abbrev tieBehind : Fabric
 tieBehind = linked 3 4
-    (entryOf 10 1 3 (allWild 4) (noRewrite 4)
-    ∷ entryOf 10 4 2 (allWild 4) (noRewrite 4)
-    ∷ entryOf 10 4 0 (allWild 4) (noRewrite 4)
+    (entryOf 10 1 3 (allWild 4) (noAction 4)
+    ∷ entryOf 10 4 2 (allWild 4) (noAction 4)
+    ∷ entryOf 10 4 0 (allWild 4) (noAction 4)
     ∷ [])
 
 at-the-limit : run tieBehind 1 1 (header 0 0 0 0) ≡ travelling 4 (header 0 0 0 0) (0 ∷ [])
@@ -219,9 +221,9 @@ past-the-limit = refl
 -- before its next sibling
 abbrev twoBeaters : Fabric
 twoBeaters = fabric
-    (entryOf 20 1 0 (set (header 0 0 3 0) (header 0 0 1 0)) (noRewrite 4)
-    ∷ entryOf 30 1 0 (set (header 0 0 6 0) (header 0 0 2 0)) (noRewrite 4)
-    ∷ entryOf 10 1 2 (allWild 4) (noRewrite 4)
+    (entryOf 20 1 0 (set (header 0 0 3 0) (header 0 0 1 0)) (noAction 4)
+    ∷ entryOf 30 1 0 (set (header 0 0 6 0) (header 0 0 2 0)) (noAction 4)
+    ∷ entryOf 10 1 2 (allWild 4) (noAction 4)
     ∷ [])
 
 beaters-in-file-order : trace twoBeaters 1 2 (allWild 4)
@@ -237,7 +239,7 @@ beaters-in-file-order = refl
 
 -- T3: entries are taken up in file order, though entry 1 has the higher priority
 abbrev twoAtStop : Fabric
-twoAtStop = fabric (entryOf 10 1 2 (tpDst 22) (noRewrite 4) ∷ entryOf 30 1 2 (tpDst 80) (noRewrite 4) ∷ [])
+twoAtStop = fabric (entryOf 10 1 2 (tpDst 22) (noAction 4) ∷ entryOf 30 1 2 (tpDst 80) (noAction 4) ∷ [])
 
 entries-in-file-order : trace twoAtStop 1 2 (allWild 4)
     ≡ unit
@@ -254,7 +256,7 @@ abbrev ownGroup : Fabric
 ownGroup = record {
   words = 4;
   entries = 1;
-  entry = λ e. entryOf 10 1 2 (allWild 4) (noRewrite 4);
+  entry = λ e. entryOf 10 1 2 (allWild 4) (noAction 4);
   isEdge = λ x. eqb x 1 || eqb x 2;
   group = λ x. 7;
   admitted = λ x. set (header 0 0 3 0) (header 0 0 1 0);
@@ -326,8 +328,8 @@ whole-exit-traced = refl
 -- "A beater on nw_src 10.0.0.1 and tp_dst 80 leaves tp_dst 80 from other sources."
 abbrev twoAttributes : Fabric
 twoAttributes = fabric
-    (entryOf 20 1 0 (set (header 0xffffffff 0 0xffff 0) (header 0x0a000001 0 80 0)) (noRewrite 4)
-    ∷ entryOf 10 1 2 (allWild 4) (noRewrite 4)
+    (entryOf 20 1 0 (set (header 0xffffffff 0 0xffff 0) (header 0x0a000001 0 80 0)) (noAction 4)
+    ∷ entryOf 10 1 2 (allWild 4) (noAction 4)
     ∷ [])
 
 other-source-held : holders 4 (backTraced twoAttributes 1 (allWild 4)) (header 0x0a000002 0 80 0) ≡ 1
@@ -342,7 +344,7 @@ other-source-leaves = refl
 -- not tp_dst 22, so entry 1 takes it
 abbrev beaterAtExit : Fabric
 beaterAtExit = fabric
-    (entryOf 20 1 0 (tpDst 80) (noRewrite 4)
+    (entryOf 20 1 0 (tpDst 80) (noAction 4)
     ∷ entryOf 10 1 2 (allWild 4) (setTpDst 80)
     ∷ [])
 

@@ -4,17 +4,18 @@ use mathlib.Core.Bool.{Bool, true, false, _&&_}
 use mathlib.Core.List.{List}
 use mathlib.Core.Option.{Option}
 use mathlib.Core.Path.{_≡_}
-use Prim.Native.Nat.{ℕ, suc}
+use Prim.Native.Nat.{ℕ, suc, _≤_}
 use lib.Dec.{eqb, ltb}
 use Rattle.headers.specs.Bits.{positions, those}
-use Rattle.headers.specs.Sets.{Header, Set, Rewrite, contains, WellFormed, Written, rewritten, undone}
+use Rattle.headers.specs.Sets.{Header, Set, contains, WellFormed, Written}
+use Rattle.headers.specs.Actions.{Act, acted, unacted}
 
 pub record Entry : Type 0 where
   pub priority : ℕ
   pub inPort : ℕ
   pub outPort : ℕ
   pub matches : Set
-  pub rewrite : Rewrite
+  pub action : Act
 
 -- "Ports are 1 to 4,095": port 0 is no port.
 -- "Entries are numbered from 0 in file order"
@@ -58,16 +59,18 @@ module _ (f : Fabric) where
   unfoldable pub beats : ℕ → ℕ → Bool
   beats b e = eqb (inPortOf b) (inPortOf e) && outranks (priorityOf b) (priorityOf e)
 
-  -- what entry e makes of a header that it takes: "It rewrites"
+  -- W3: what entry e makes of a header that it takes
   unfoldable pub applied : ℕ → Header → Header
-  applied e h = rewritten (f .words) (f .entry e .rewrite) h
+  applied e h = acted (f .words) (f .entry e .action) h
 
-  -- the headers that entry e makes into headers of t: "Undo the rewrite for T"
+  -- T4: the headers that entry e makes into headers of t
   unfoldable pub undoes : ℕ → Set → Option Set
-  undoes e t = undone (f .words) (f .entry e .rewrite) t
+  undoes e t = unacted (f .words) (f .entry e .action) t
 
 -- What questions 4 to 6 give of an accepted file's fabric: all that the theorems ask of it.
 pub record Sound (f : Fabric) : Type 0 where
+  -- H2: nw_src is word 0 and nw_dst word 1
+  pub two-words : 2 ≤ f .words
   -- 4, "Are ports in range": port 0 is no edge port, and no link's
   pub zero-no-edge : f .isEdge 0 ≡ false
   pub zero-begins-none : f .linkTo 0 ≡ 0
@@ -83,4 +86,4 @@ pub record Sound (f : Fabric) : Type 0 where
   pub match-well-formed : (e : ℕ) → WellFormed (f .words) (f .entry e .matches)
   pub admitted-well-formed : (x : ℕ) → WellFormed (f .words) (f .admitted x)
   -- a file's words have 32 bits
-  pub rewrite-written : (e : ℕ) → Written (f .words) (f .entry e .rewrite)
+  pub rewrite-written : (e : ℕ) → Written (f .words) (f .entry e .action .rewrite)

@@ -2,6 +2,7 @@
 use headers::Action;
 use headers::HeaderSet;
 use headers::MaybeSet;
+use headers::Transfer;
 use libc::STDOUT_FILENO;
 
 fn put_word(x: u32) {
@@ -136,25 +137,82 @@ fn meetings() {
     put_maybe(b"web and all wild:", web().intersect(HeaderSet::all_wild()));
 }
 
-fn rewrites() {
-    let mail = Action {
+// An action of this transfer that sets tp_dst to 25.
+fn mail(transfer: Transfer) -> Action {
+    Action {
+        transfer,
         mask: [0, 0, 0xffff, 0],
         value: [0, 0, 25, 0],
-    };
-    put_header(b"to port 25:", mail.apply([9, 9, 0x0001_0050, 6]));
+    }
+}
+
+// The headers that an action takes into a set, whatever they match.
+fn undone(action: Action, t: HeaderSet) -> MaybeSet {
+    action.undo(t, HeaderSet::all_wild())
+}
+
+fn rewrites() {
+    put_header(
+        b"to port 25:",
+        mail(Transfer::Keep).apply([9, 9, 0x0001_0050, 6]),
+    );
     put_header(
         b"no rewrite:",
         Action::no_rewrite().apply([9, 9, 0x0001_0050, 6]),
     );
     put_maybe(
         b"into port 25:",
-        mail.undo(HeaderSet {
-            care: [0, 0, 0xffff, 0xff],
-            value: [0, 0, 25, 6],
-        }),
+        undone(
+            mail(Transfer::Keep),
+            HeaderSet {
+                care: [0, 0, 0xffff, 0xff],
+                value: [0, 0, 25, 6],
+            },
+        ),
     );
-    put_maybe(b"into web:", mail.undo(web()));
-    put_maybe(b"no rewrite into web:", Action::no_rewrite().undo(web()));
+    put_maybe(b"into web:", undone(mail(Transfer::Keep), web()));
+    put_maybe(b"no rewrite into web:", undone(Action::no_rewrite(), web()));
+}
+
+// From this network of 16 bits to the subnet.
+fn to_subnet(network: u32) -> HeaderSet {
+    HeaderSet {
+        care: [0xffff_0000, 0xffff_ff00, 0, 0],
+        value: [network, 0x0a00_0100, 0, 0],
+    }
+}
+
+fn transfers() {
+    put_header(
+        b"copied, to port 25:",
+        mail(Transfer::Copy).apply([9, 7, 0x0001_0050, 6]),
+    );
+    put_header(
+        b"swapped, to port 25:",
+        mail(Transfer::Swap).apply([9, 7, 0x0001_0050, 6]),
+    );
+    let inside = to_subnet(0x0a00_0000);
+    let outside = to_subnet(0x0b00_0000);
+    put_maybe(
+        b"copied to the subnet from inside:",
+        undone(mail(Transfer::Copy), inside),
+    );
+    put_maybe(
+        b"copied to the subnet from outside:",
+        undone(mail(Transfer::Copy), outside),
+    );
+    put_maybe(
+        b"swapped to the subnet from outside:",
+        undone(mail(Transfer::Swap), outside),
+    );
+    put_maybe(
+        b"copied to the subnet from inside, if web:",
+        mail(Transfer::Copy).undo(inside, web()),
+    );
+    put_maybe(
+        b"swapped to the subnet from outside, if in the subnet:",
+        mail(Transfer::Swap).undo(outside, subnet()),
+    );
 }
 
 fn carvings() {
@@ -183,5 +241,6 @@ fn main() {
     members();
     meetings();
     rewrites();
+    transfers();
     carvings();
 }

@@ -4,9 +4,11 @@ pub mod Positions
 pub mod Members
 pub mod Intersection
 pub mod Undoing
+pub mod Acting
+pub mod Copying
 pub mod SetBits
 pub mod Fixed
 pub mod Carved
 pub mod Parts
 pub mod Misleading
-mod Answers
+pub mod Answers

@@ -1,6 +1,6 @@
 -- From words to positions: a test on every word is a test on every position, and lists of words with the same bits are equal. Assumes nothing.
 use mathlib.Core.Bool.{Bool, true, false, not, _&&_, cond, false≢true, and-false, and-true}
-use mathlib.Core.List.{List}
+use mathlib.Core.List.{List, _∷_}
 use mathlib.Core.Path.{_≡_, refl, sym, ap, ap₂, _∙_}
 use Prim.Native.Nat.{ℕ, zero, suc, _+_, _-_, _*_, _/_, _%_, _^_, _<_}
 use native.Mathlib.Decide.{ℕ-discrete, decLt}
@@ -59,6 +59,15 @@ words-long (suc n) f = ap suc (words-long n (λ v. f (suc v)))
 
 pub words-fit : (n : ℕ) (f : ℕ → ℕ) → ((w : ℕ) → w < n → f w < 2 ^ 32) → Words n (words n f)
 words-fit n f h = record { long = words-long n f; fits = λ w l. rw (word-of n f w l) (h w l) }
+
+pub words-same : (n : ℕ) (f g : ℕ → ℕ) → ((w : ℕ) → w < n → f w ≡ g w) → words n f ≡ words n g
+words-same zero f g e = refl
+words-same (suc n) f g e =
+    ap₂ _∷_ (e 0 (omega arith)) (words-same n (λ w. f (suc w)) (λ w. g (suc w)) (λ w l. e (suc w) (omega arith)))
+
+-- a list of words written out again
+pub words-again : (n : ℕ) (l : List ℕ) → Words n l → words n (word l) ≡ l
+words-again n l f = ext-getD 0 _ _ (words-long n (word l) ∙ sym (f .long)) λ w k. word-of n (word l) w (rw (words-long n (word l)) at k)
 
 -- an array of the code
 pub array-words : (n : ℕ) (l : List ℕ) → length l ≡ n → ((w : ℕ) → Fits w32 (word l w)) → Words n l

@@ -1,11 +1,13 @@
--- E8, E9 and E10 of document 01, the carving of E2, and where the published method misleads; each computed. Assumes nothing.
+-- E8, E9 and E10 of document 01, the carving of E2, and where the published method misleads; each computed.
 use mathlib.Core.Bool.{true, false}
 use mathlib.Core.List.{[], _∷_}
-use mathlib.Core.Option.{Option, some, none}
+use mathlib.Core.Option.{some, none, bind}
 use mathlib.Core.Path.{_≡_, refl}
 use Prim.Native.Nat.{ℕ}
 use Rattle.headers.specs.Bits.{bit, bitAt, positions, those, setBits, single}
-use Rattle.headers.specs.Sets.{Header, Set, Rewrite, allWild, intersection, undone}
+use Rattle.headers.specs.Sets.{Header, Set, allWild, intersection, undone}
+use Rattle.headers.specs.Actions.{Act, unacted, before}
+use Rattle.headers.specs.declared.Transfer.the-variants.{Keep}
 use Rattle.headers.specs.Carving.{partsAt, parts, carve, within}
 
 abbrev pub header : ℕ → ℕ → ℕ → ℕ → Header
@@ -14,30 +16,27 @@ header a b c d = a ∷ b ∷ c ∷ d ∷ []
 abbrev pub tpDst : ℕ → Set
 tpDst port = record { care = header 0 0 0xffff 0; value = header 0 0 port 0 }
 
-abbrev pub setTpDst : ℕ → Rewrite
-setTpDst port = record { mask = header 0 0 0xffff 0; value = header 0 0 port 0 }
+abbrev pub setTpDst : ℕ → Act
+setTpDst port = record { transfer = Keep; rewrite = record { mask = header 0 0 0xffff 0; value = header 0 0 port 0 } }
 
--- the headers that a match holds and an action rewrites into the exit set
-abbrev before : Set → Rewrite → Set → Option Set
-before matches action exit = meet (undone 4 action exit)
-  where
-    meet : Option Set → Option Set
-    meet none = none
-    meet (some s) = intersection 4 s matches
+-- What the examples compute with: to open it is to open all that its line names.
+computing : Unit {0}
+unfolding bind intersection undone unacted before
+computing = tt
 
 -- "rewriting tp_dst to 5 with an all-wild match, exit tp_dst 5: all wild"; 004's Table V has the written value
-E8 : before (allWild 4) (setTpDst 5) (tpDst 5) ≡ some (allWild 4)
-unfolding intersection undone
+E8 : before 4 (allWild 4) (setTpDst 5) (tpDst 5) ≡ some (allWild 4)
+unfolding computing
 E8 = refl
 
 -- "exit tp_dst 6: empty"
-E9 : before (allWild 4) (setTpDst 5) (tpDst 6) ≡ none
-unfolding intersection undone
+E9 : before 4 (allWild 4) (setTpDst 5) (tpDst 6) ≡ none
+unfolding computing
 E9 = refl
 
 -- "match tp_dst 80, rewrite to 5, all-wild exit: tp_dst 80"; 004's Table V has all-wild
-E10 : before (tpDst 80) (setTpDst 5) (allWild 4) ≡ some (tpDst 80)
-unfolding intersection undone
+E10 : before 4 (tpDst 80) (setTpDst 5) (allWild 4) ≡ some (tpDst 80)
+unfolding computing
 E10 = refl
 
 -- E2: the match of entry 1 carved by that of entry 0
@@ -64,6 +63,6 @@ that-source = refl
 
 -- "Forwarding a back-traced set need not give the whole exit set": all of the all-wild exit set traces back to all headers,
 -- and none of them is forwarded to tp_dst 6 (`proofs/Misleading.antt`, `never-forwarded`)
-whole-exit-traced : before (allWild 4) (setTpDst 5) (allWild 4) ≡ some (allWild 4)
-unfolding intersection undone
+whole-exit-traced : before 4 (allWild 4) (setTpDst 5) (allWild 4) ≡ some (allWild 4)
+unfolding computing
 whole-exit-traced = refl

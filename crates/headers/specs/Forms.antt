@@ -2,6 +2,7 @@
 use mathlib.Core.Option.{Option, some, none}
 use mathlib.Core.Bool.{true, false}
 use Rattle.headers.specs.Sets.{Set, Rewrite, allWild}
+use Rattle.headers.specs.Actions.{Act}
 use Rattle.headers.specs.Carving.{Cut}
 use Rattle.headers.specs.declared.HeaderSet.{HeaderSet}
 use Rattle.headers.specs.declared.Action.{Action}
@@ -13,6 +14,9 @@ setOf s = record { care = s .care; value = s .value }
 
 abbrev pub rewriteOf : Action → Rewrite
 rewriteOf a = record { mask = a .mask; value = a .value }
+
+abbrev pub actOf : Action → Act
+actOf a = record { transfer = a .transfer; rewrite = rewriteOf a }
 
 -- a set as the code has it
 abbrev pub formOf : Set → HeaderSet

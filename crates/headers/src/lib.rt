@@ -1,15 +1,18 @@
-// Header sets of four words: membership, intersection, rewrites and their undoing, and carving.
-// Document 01, "Header sets". What each call means is in specs/Sets.antt and specs/Carving.antt, for any number of words;
-// what follows from it is in proofs/: Members, Intersection, Undoing, Carved, Parts.
+// Header sets of four words: membership, intersection, actions and their undoing, and carving.
+// Document 01, "Header sets", and document 02, 2.5. What each call means is in specs/: Sets, Actions and Carving, for any number of words;
+// what follows from it is in proofs/: Members, Intersection, Undoing, Acting, Carved, Parts.
 ghost use mathlib.Core.Path.{_≡_};
 ghost use mathlib.Core.Bool.{cond};
 ghost use Prim.Native.Nat.{_-_, _/_, _%_, _^_, _≤_};
 ghost use lib.Count.{leadingZeros};
 ghost use lib.Dec.{eqb};
 ghost use Rattle.headers.specs.Bits.{noBit, firstSet, single};
-ghost use Rattle.headers.specs.Sets.{agree, overwritten, outside, both, either, contains, tidy, overlaps, joined, intersection, rewritten, widened, undone, lowest, allWild, noRewrite, writes};
+ghost use Rattle.headers.specs.Sets.{agree, overwritten, outside, both, either, contains, tidy, overlaps, joined, intersection};
+ghost use Rattle.headers.specs.Sets.{widened, undone, lowest, allWild, writes};
+ghost use Rattle.headers.specs.Actions.{moved, copied, swapped, transferred, acted, movedSet, uncopied, untransferred, before};
+ghost use Rattle.headers.specs.Actions.{noAction};
 ghost use Rattle.headers.specs.Carving.{free, turned, taking, nextCut};
-ghost use Rattle.headers.specs.Forms.{setOf, rewriteOf, formOf, maybeOf, nextOf};
+ghost use Rattle.headers.specs.Forms.{setOf, rewriteOf, actOf, formOf, maybeOf, nextOf};
 
 // The headers that equal the value on every care bit.
 pub struct HeaderSet {
@@ -17,8 +20,16 @@ pub struct HeaderSet {
     pub value: [u32; 4],
 }
 
-// What an entry does to a header: masked bits become the value's.
+// What an entry does to the addresses of a header: nothing, nw_src (word 0) copied over nw_dst (word 1), or the two swapped.
+pub enum Transfer {
+    Keep,
+    Copy,
+    Swap,
+}
+
+// What an entry does to a header: the transfer, and then masked bits become the value's.
 pub struct Action {
+    pub transfer: Transfer,
     pub mask: [u32; 4],
     pub value: [u32; 4],
 }
@@ -127,6 +138,52 @@ impl HeaderSet {
         }
     }
 
+    // The headers that a copy takes into this set: what it wants of word 1 joins what it wants of word 0.
+    fn uncopied(self) -> MaybeSet
+        ensures { λ r. ⌜ r ≡ maybeOf (uncopied 4 (setOf self)) ⌝ }
+    {
+        let c = self.care;
+        let v = self.value;
+        let others = HeaderSet {
+            care: [c[0], 0, c[2], c[3]],
+            value: [v[0], 0, v[2], v[3]],
+        };
+        let wanted = HeaderSet {
+            care: [c[1], 0, 0, 0],
+            value: [v[1], 0, 0, 0],
+        };
+        others.intersect(wanted)
+    }
+
+    // The headers that a swap takes into this set.
+    fn unswapped(self) -> HeaderSet
+        ensures { λ r. ⌜ r ≡ formOf (movedSet 4 swapped (setOf self)) ⌝ }
+    {
+        let c = self.care;
+        let v = self.value;
+        HeaderSet {
+            care: swapped(c),
+            value: swapped(v),
+        }
+    }
+
+    // The headers that a transfer takes into this set.
+    fn untransferred(self, transfer: Transfer) -> MaybeSet
+        ensures { λ r. ⌜ r ≡ maybeOf (untransferred 4 transfer (setOf self)) ⌝ }
+    {
+        match transfer {
+            Transfer::Keep => MaybeSet {
+                some: true,
+                set: self,
+            },
+            Transfer::Copy => self.uncopied(),
+            Transfer::Swap => MaybeSet {
+                some: true,
+                set: self.unswapped(),
+            },
+        }
+    }
+
     // The bits that b cares for and this set doesn't.
     fn free(self, b: HeaderSet) -> [u32; 4]
         ensures { λ r. ⌜ r ≡ free 4 (setOf self) (setOf b) ⌝ }
@@ -189,9 +246,10 @@ impl HeaderSet {
 impl Action {
     // The action that leaves every header as it is.
     pub fn no_rewrite() -> Self
-        ensures { λ r. ⌜ rewriteOf r ≡ noRewrite 4 ⌝ }
+        ensures { λ r. ⌜ actOf r ≡ noAction 4 ⌝ }
     {
         Action {
+            transfer: Transfer::Keep,
             mask: [0; 4],
             value: [0; 4],
         }
@@ -207,15 +265,38 @@ impl Action {
     }
 
     pub fn apply(self, h: [u32; 4]) -> [u32; 4]
-        ensures { λ r. ⌜ r ≡ rewritten 4 (rewriteOf self) h ⌝ }
+        ensures { λ r. ⌜ r ≡ acted 4 (actOf self) h ⌝ }
     {
+        let transfer = self.transfer;
         let m = self.mask;
         let v = self.value;
-        overwritten(m, v, h)
+        overwritten(m, v, transferred(transfer, h))
     }
 
-    // The headers that this action takes into t.
-    pub fn undo(self, t: HeaderSet) -> MaybeSet
+    // The headers of a match that this action takes into t: what it does last is undone first.
+    pub fn undo(self, t: HeaderSet, matching: HeaderSet) -> MaybeSet
+        ensures { λ r. ⌜ r ≡ maybeOf (before 4 (setOf matching) (actOf self) (setOf t)) ⌝ }
+    {
+        let transfer = self.transfer;
+        let rewritten = self.unwritten(t);
+        if !rewritten.some {
+            return rewritten;
+        }
+        let s = rewritten.set;
+        // the usual case by itself, which the compiler makes vector code of
+        if let Transfer::Keep = transfer {
+            return s.intersect(matching);
+        }
+        let transferred = s.untransferred(transfer);
+        if !transferred.some {
+            return transferred;
+        }
+        let s = transferred.set;
+        s.intersect(matching)
+    }
+
+    // The headers that its rewrite takes into t.
+    fn unwritten(self, t: HeaderSet) -> MaybeSet
         ensures { λ r. ⌜ r ≡ maybeOf (undone 4 (rewriteOf self) (setOf t)) ⌝ }
     {
         if t.overlaps(self.writes()) {
@@ -274,6 +355,31 @@ fn overwritten(m: [u32; 4], x: [u32; 4], y: [u32; 4]) -> [u32; 4]
         y[2] & !m[2] | x[2] & m[2],
         y[3] & !m[3] | x[3] & m[3],
     ]
+}
+
+// Word 0 over word 1.
+fn copied(h: [u32; 4]) -> [u32; 4]
+    ensures { λ r. ⌜ r ≡ moved 4 copied h ⌝ }
+{
+    [h[0], h[0], h[2], h[3]]
+}
+
+// Words 0 and 1 exchanged.
+fn swapped(h: [u32; 4]) -> [u32; 4]
+    ensures { λ r. ⌜ r ≡ moved 4 swapped h ⌝ }
+{
+    [h[1], h[0], h[2], h[3]]
+}
+
+// What a transfer makes of a header.
+fn transferred(transfer: Transfer, h: [u32; 4]) -> [u32; 4]
+    ensures { λ r. ⌜ r ≡ transferred 4 transfer h ⌝ }
+{
+    match transfer {
+        Transfer::Keep => h,
+        Transfer::Copy => copied(h),
+        Transfer::Swap => swapped(h),
+    }
 }
 
 fn none_set(x: [u32; 4]) -> bool

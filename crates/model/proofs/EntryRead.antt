@@ -2,7 +2,7 @@
 use mathlib.Core.List.{List}
 use mathlib.Core.Path.{_≡_, sym, ap, _∙_, subst}
 use Prim.Native.Nat.{ℕ, _<_}
-use Rattle.records.specs.Records.{headerWords, entryPriority, entryIn, entryOut, entryMatch, entryRewrite, entryBytes}
+use Rattle.records.specs.Records.{headerWords, entryPriority, entryIn, entryOut, entryMatch, entryAction, entryBytes}
 use Rattle.records.specs.declared.Shape.{Shape}
 use Rattle.file.specs.Accepted.{Accepted}
 use Rattle.file.specs.Accepted as Known
@@ -28,7 +28,7 @@ pub record EntryRead (F : Forwarding.Fabric) (e : ℕ) (x : List ℕ) : Type 0 w
   pub out-port : entryOut x ≡ outPortOf F e
   pub priority : entryPriority x ≡ priorityOf F e
   pub matches : entryMatch x ≡ F .entry e .matches
-  pub rewrite : entryRewrite x ≡ F .entry e .rewrite
+  pub action : entryAction x ≡ F .entry e .action
 
 pub entry-read : (f : List ℕ) (s : Shape) → Accepted f s → (e : ℕ) → e < s .entries → (x : List ℕ) → x ≡ entryBytes f s e → EntryRead (fabricIn f) e x
 entry-read f s ok e l x is =
@@ -40,5 +40,5 @@ entry-read f s ok e l x is =
       out-port = sym (ap (λ (y : Forwarding.Entry). y .outPort) same);
       priority = sym (ap (λ (y : Forwarding.Entry). y .priority) same);
       matches = sym (ap (λ (y : Forwarding.Entry). y .matches) same);
-      rewrite = sym (ap (λ (y : Forwarding.Entry). y .rewrite) same);
+      action = sym (ap (λ (y : Forwarding.Entry). y .action) same);
     }

@@ -56,6 +56,7 @@ module _ (f : List ℕ) (s : Shape) (ok : Accepted f s) where
   sound-of : Sound (fabricOf f s)
   unfolding fabricOf edgeAt linkBeginning linkEnding
   sound-of = record {
+    two-words = omega arith;
     zero-no-edge = no-edge (fabricOf f s .isEdge 0) refl;
     zero-begins-none = across-none froms tos (s .links) (tos-differ f s ok) (link-from-low f s ok) 0 (no-link-at-zero froms (link-from-low f s ok));
     zero-ends-none = across-none tos froms (s .links) (froms-differ f s ok) (link-to-low f s ok) 0 (no-link-at-zero tos (link-to-low f s ok));
@@ -71,7 +72,9 @@ module _ (f : List ℕ) (s : Shape) (ok : Accepted f s) where
         (λ j l q. no-edge-at-to f s ok (d .number-then) j (d .below) l (d .port-is ∙ sym q));
     match-well-formed = λ e. by-entry (λ x. WellFormed headerWords (x .matches)) e (λ l. entry-of f s ok e l .matches) (all-wild-well-formed headerWords);
     admitted-well-formed = λ x. admitted x (number (recent (portOfEdge f) (s .edges)) x) refl;
-    rewrite-written = λ e. by-entry (λ x. Written headerWords (x .rewrite)) e (λ l. entry-of f s ok e l .rewrites) (record { mask = no-bits headerWords; value = no-bits headerWords });
+    rewrite-written = λ e.
+        by-entry (λ x. Written headerWords (x .action .rewrite)) e (λ l. entry-of f s ok e l .rewrites)
+        (record { mask = no-bits headerWords; value = no-bits headerWords });
   }
     where
       no-edge : (b : Bool) → fabricOf f s .isEdge 0 ≡ b → b ≡ false

@@ -2,8 +2,10 @@
 use mathlib.Core.List.{List}
 use Prim.Native.Nat.{ℕ, zero, suc, _*_}
 use lib.Dec.{ltb}
-use Rattle.headers.specs.Sets.{allWild, noRewrite}
-use Rattle.records.specs.Records.{headerWords, edgeGroup, edgeAdmitted, entryPriority, entryIn, entryOut, entryMatch, entryRewrite, placeOf, portOfEdge, fromOfLink, toOfLink, recent, edgeBytes, entryBytes}
+use Rattle.headers.specs.Sets.{allWild}
+use Rattle.headers.specs.Actions.{noAction}
+use Rattle.records.specs.Records.{headerWords, edgeGroup, edgeAdmitted, entryPriority, entryIn, entryOut, entryMatch, entryAction}
+use Rattle.records.specs.Records.{placeOf, portOfEdge, fromOfLink, toOfLink, recent, edgeBytes, entryBytes}
 use Rattle.records.specs.declared.Shape.{Shape}
 use Rattle.questions.specs.Questions.{pick, shape, accepted}
 use Rattle.questions.specs.Tables.{number}
@@ -37,12 +39,12 @@ entryFrom x = record {
   inPort = entryIn x;
   outPort = entryOut x;
   matches = entryMatch x;
-  rewrite = entryRewrite x;
+  action = entryAction x;
 }
 
 -- what a number past the last entry reads as
 abbrev pub noEntry : Forwarding.Entry
-noEntry = record { priority = 0; inPort = 0; outPort = 0; matches = allWild headerWords; rewrite = noRewrite headerWords }
+noEntry = record { priority = 0; inPort = 0; outPort = 0; matches = allWild headerWords; action = noAction headerWords }
 
 module _ (f : List ℕ) (s : Shape) where
   -- one more than the number of the edge at a port, of the link that begins there and of the link that ends there; 0 where there is none

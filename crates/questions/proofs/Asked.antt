@@ -7,9 +7,9 @@ use native.Mathlib.Omega.{arith}
 use lib.Dec.{ltb, leb, eqb}
 use borrow.Author.Tests.{lt-ltb, le-leb, lt-leb}
 use Rattle.headers.specs.Sets.{tidy}
-use Rattle.records.specs.Words.{wordAt, wordsIn, bits, kindOf, portOf, fromOf}
+use Rattle.records.specs.Words.{wordAt, wordsIn, bits, kindOf, transferOf, portOf, fromOf, rankOf}
 use Rattle.records.specs.Records.{headerWords, admittedAt, edgeWords, matchAt, rewriteAt, entryWords, setFrom, placeOf, portOfEdge, fromOfLink, toOfLink, inOfEntry, recent}
-use Rattle.records.proofs.Words.{word-fits, port-range, from-range}
+use Rattle.records.proofs.Words.{port-range, from-range}
 use Rattle.questions.specs.Questions.{pick, latest, times, _asks_, firstNo, asked, inOrder, portsRight, setsTidy, linkFree, withinLimits, started}
 use Rattle.questions.specs.Reading.{lastKind, passedAt, Here, askedAt}
 use Rattle.questions.specs.Tables.{number}
@@ -86,20 +86,21 @@ module _ (f : List ℕ) (e l n at w : ℕ) (h : Here f e l n 4 w) (ha : at ≡ p
       let j = lt-leb (placeOf e l n + entryWords) (wordsIn f) (rw ha at short) in
       simp (entry-kind, and-false, j)
 
-  pub entry-asked : at + entryWords ≤ wordsIn f → (second port out m r : ℕ) (s t : Bool)
-      → second ≡ wordAt f (at + 1) → port ≡ portOf w → out ≡ portOf second
-      → s ≡ tidy headerWords (setFrom headerWords f (at + matchAt)) → t ≡ tidy headerWords (setFrom headerWords f (at + rewriteAt)) → m ≡ times port (recent (inOfEntry f e l) n)
-      → r ≡ firstNo (3 asks eqb (second / 4096) 0 ∷ 4 asks (leb 1 port && not (eqb port out)) ∷ 5 asks (s && t) ∷ 6 asks true
-      ∷ 7 asks (ltb n 512 && ltb m 64) ∷ [])
+  pub entry-asked : at + entryWords ≤ wordsIn f → (second port spare transfer out m r : ℕ) (s t : Bool)
+      → second ≡ wordAt f (at + 1) → port ≡ portOf w
+      → spare ≡ rankOf second → transfer ≡ transferOf second → out ≡ portOf second
+      → s ≡ tidy headerWords (setFrom headerWords f (at + matchAt)) → t ≡ tidy headerWords (setFrom headerWords f (at + rewriteAt))
+      → m ≡ times port (recent (inOfEntry f e l) n)
+      → r ≡ firstNo (3 asks (eqb spare 0 && leb transfer 2) ∷ 4 asks (leb 1 port && not (eqb port out)) ∷ 5 asks (s && t)
+      ∷ 6 asks true ∷ 7 asks (ltb n 512 && ltb m 64) ∷ [])
       → r ≡ askedAt f e l n
   unfolding asked inOrder portsRight setsTidy linkFree withinLimits passedAt
-  entry-asked fits second port out m r s t h2 hp ho hs ht hm hr =
+  entry-asked fits second port spare transfer out m r s t h2 hp hz hk ho hs ht hm hr =
       let i = lt-ltb (placeOf e l n) (wordsIn f) (h .inside) in
       let j = le-leb (placeOf e l n + entryWords) (wordsIn f) (rw ha at fits) in
       let o = le-leb (lastKind e l n) 4 (up-to-entries e l n 4 (omega arith)) in
-      let z : wordAt f (placeOf e l n + 1) / 4096 % 1048576 ≡ wordAt f (placeOf e l n + 1) / 4096 = omega (arith, word-fits f (placeOf e l n + 1)) in
-      rw (hr, hm, hs, ht, ho, h2, hp, ha, h .word-is)
-      (simp (entry-kind, o, z, port-range, and-true, recent-long, i, j))
+      rw (hr, hm, hs, ht, ho, hz, hk, h2, hp, ha, h .word-is)
+      (simp (entry-kind, o, port-range, and-true, recent-long, i, j))
 
 -- ---- question 2
 

@@ -7,10 +7,12 @@ use native.Mathlib.Omega.{arith}
 use lib.Dec.{ltb, leb, eqb}
 use borrow.Author.Tests.{ltb-true, leb-true, eqb-false, not-true}
 use Rattle.headers.specs.Sets.{tidy, writes}
-use Rattle.records.specs.Words.{wordAt, wordsIn, kindOf, portOf}
-use Rattle.records.specs.Records.{headerWords, admittedAt, edgeWords, matchAt, rewriteAt, entryWords, setFrom, rewriteFrom, placeOf, portOfEdge, fromOfLink, toOfLink, inOfEntry, recent}
+use Rattle.records.specs.Words.{wordAt, wordsIn, kindOf, transferOf, portOf}
+use Rattle.records.specs.Records.{headerWords, admittedAt, edgeWords, matchAt, rewriteAt, entryWords, setFrom, rewriteFrom, placeOf}
+use Rattle.records.specs.Records.{portOfEdge, fromOfLink, toOfLink, inOfEntry, recent}
 use Rattle.records.proofs.Words.{port-range, from-range}
-use Rattle.questions.specs.Questions.{latest, elem, times, byKind, _asks_, firstNo, Passed, kind, size, zeroBits, asked, inOrder, portsRight, setsTidy, linkFree, withinLimits}
+use Rattle.questions.specs.Questions.{latest, elem, times, byKind, _asks_, firstNo, Passed, kind, size, zeroBits, transferKnown}
+use Rattle.questions.specs.Questions.{asked, inOrder, portsRight, setsTidy, linkFree, withinLimits}
 use Rattle.questions.specs.Reading.{passedAt}
 use Rattle.questions.proofs.Lists.{recent-long}
 use Rattle.questions.proofs.Chains.{parts}
@@ -46,6 +48,7 @@ pub record Ordered (f : List ℕ) (s : Passed) : Type 0 where
   pub order : s .last-kind ≤ kind f s
   pub inside : s .place + size f s ≤ wordsIn f
   pub zero-bits : zeroBits f s ≡ true
+  pub transfer : transferKnown f s ≡ true
   pub last : byKind (kind f s) true true true (eqb (s .place + 1) (wordsIn f)) ≡ true
 
 pub ordered : (f : List ℕ) (s : Passed) → inOrder f s ≡ true → Ordered f s
@@ -53,7 +56,7 @@ unfolding inOrder
 ordered f s h =
     let part = parts (ltb (s .place) (wordsIn f))
     (leb 2 (kind f s) ∷ leb (kind f s) 5 ∷ leb (s .last-kind) (kind f s) ∷ leb (s .place + size f s) (wordsIn f) ∷ zeroBits f s
-    ∷ byKind (kind f s) true true true (eqb (s .place + 1) (wordsIn f)) ∷ []) h in
+    ∷ transferKnown f s ∷ byKind (kind f s) true true true (eqb (s .place + 1) (wordsIn f)) ∷ []) h in
     record {
       here = ltb-true _ _ (part 0);
       low = leb-true _ _ (part 1);
@@ -61,7 +64,8 @@ ordered f s h =
       order = leb-true _ _ (part 3);
       inside = leb-true _ _ (part 4);
       zero-bits = part 5;
-      last = part 6;
+      transfer = part 6;
+      last = part 7;
     }
 
 -- ---- an edge
@@ -126,6 +130,7 @@ link-is f e l k y =
 pub record EntryIs (f : List ℕ) (e l n : ℕ) : Type 0 where
   pub inside : placeOf e l n + entryWords ≤ wordsIn f
   pub in-low : 1 ≤ inOfEntry f e l n
+  pub transfer : transferOf (wordAt f (placeOf e l n + 1)) ≤ 2
   pub differ : inOfEntry f e l n ≡ portOf (wordAt f (placeOf e l n + 1)) → ⊥
   pub match-tidy : tidy headerWords (setFrom headerWords f (placeOf e l n + matchAt)) ≡ true
   pub rewrite-tidy : tidy headerWords (writes (rewriteFrom headerWords f (placeOf e l n + rewriteAt))) ≡ true
@@ -140,8 +145,10 @@ entry-is f e l n k y =
     let p = parts (leb 1 port) (not (eqb port out) ∷ []) (simp (k, port-range, and-true) at (y .ports)) in
     let t = parts (tidy headerWords (setFrom headerWords f (placeOf e l n + matchAt))) (tidy headerWords (writes (rewriteFrom headerWords f (placeOf e l n + rewriteAt))) ∷ []) (simp k at (y .sets)) in
     let m = parts (ltb n 512) (ltb (times port (recent (inOfEntry f e l) n)) 64 ∷ []) (simp (k, recent-long) at (y .limits)) in
+    let order = ordered f (passedAt f e l n) (y .order) in
     record {
-      inside = simp k at (ordered f (passedAt f e l n) (y .order) .inside);
+      inside = simp k at (order .inside);
+      transfer = leb-true _ _ (simp k at (order .transfer));
       in-low = leb-true _ _ (p 0);
       differ = eqb-false _ _ (not-true (eqb port out) (p 1));
       match-tidy = t 0;

@@ -7,7 +7,7 @@ use lib.Dec.{ltb, leb, eqb}
 use lib.ListN.{length}
 use Rattle.headers.specs.Bits.{keepIf}
 use Rattle.headers.specs.Sets.{tidy, writes}
-use Rattle.records.specs.Words.{wordAt, wordsIn, bits, kindOf, portOf, fromOf}
+use Rattle.records.specs.Words.{wordAt, wordsIn, bits, kindOf, transferOf, portOf, fromOf}
 use Rattle.records.specs.Records.{headerWords, admittedAt, edgeWords, matchAt, rewriteAt, entryWords, setFrom, rewriteFrom}
 use Rattle.records.specs.declared.Shape.{Shape}
 use Rattle.questions.specs.declared.Read.{Read}
@@ -95,16 +95,20 @@ module _ (f : List ℕ) (s : Passed) where
   abbrev pub size : ℕ
   size = byKind kind edgeWords 1 entryWords 1
 
-  -- a link's bits 27..24, an entry's second word above the out-port, an end's rest
+  -- a link's bits 27..24, an entry's between transfer and out-port, an end's rest
   abbrev pub zeroBits : Bool
-  zeroBits = byKind kind true (eqb (bits 27 24 first) 0) (eqb (bits 31 12 second) 0) (eqb (bits 27 0 first) 0)
+  zeroBits = byKind kind true (eqb (bits 27 24 first) 0) (eqb (bits 27 12 second) 0) (eqb (bits 27 0 first) 0)
+
+  -- since 2.5: an entry's transfer has a number up to 2
+  abbrev pub transferKnown : Bool
+  transferKnown = byKind kind true true (leb (transferOf second) 2) true
 
   -- 3. "Is there a word here, its kind 2 to 5 and no smaller than the last record's, the record inside the file, its zero bits zero,
-  -- and an end only as the last word?"
+  -- and an end only as the last word?" "values above 2 fail question 3"
   unfoldable pub inOrder : Bool
   inOrder =
       ltb at (wordsIn f) && leb 2 kind && leb kind 5 && leb (s .last-kind) kind && leb (at + size) (wordsIn f) && zeroBits
-      && byKind kind true true true (eqb (at + 1) (wordsIn f))
+      && transferKnown && byKind kind true true true (eqb (at + 1) (wordsIn f))
 
   -- 4. "Are ports in range, edge ports and link from-ports strictly rising, a link's or entry's two ports different?"
   -- (an out-port may be 0)

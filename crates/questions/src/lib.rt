@@ -4,7 +4,6 @@ use records::ADMITTED;
 use records::EDGE;
 use records::ENTRY;
 use records::MATCH;
-use records::PORTS;
 use records::REWRITE;
 use records::Shape;
 ghost use mathlib.Core.List.{[], _∷_};
@@ -111,11 +110,12 @@ pub fn entry_no(
     }
     let second = records::word(file, at + 1);
     let port = records::port_of(w);
-    let zero = second / PORTS == 0;
+    let zero = records::rank_of(second) == 0;
+    let known = records::transfer_of(second) <= 2;
     let ports = (1 <= port) & (port != records::port_of(second));
     let tidy = tidy_at(file, at + MATCH) & tidy_at(file, at + REWRITE);
     let within = (n < 512) & (counts[port as usize] < 64);
-    first_no(zero, ports, tidy, true, within)
+    first_no(zero & known, ports, tidy, true, within)
 }
 
 // Does the end stand at this place, as the last word?

@@ -3,19 +3,21 @@
 use mathlib.Core.List.{List, [], _∷_, _++_}
 use mathlib.Core.Path.{_≡_, refl}
 use Prim.Native.Nat.{ℕ, zero, suc}
-use Rattle.records.specs.Words.{wordAt, bytesFrom, kindOf, portOf, fromOf, rankOf}
+use Rattle.headers.specs.declared.Transfer.the-variants.{Keep, Copy, Swap}
+use Rattle.records.specs.Words.{wordAt, bytesFrom, kindOf, transferOf, portOf, fromOf, rankOf}
 use Rattle.records.specs.Records.{edgeWords, edgeGroup, edgePort, edgeAdmitted, edgeBytes, portOfEdge}
 use Rattle.records.specs.Records.{fromOfLink, toOfLink, placeOf}
-use Rattle.records.specs.Records.{entryWords, entryPriority, entryIn, entryOut, entryMatch, entryRewrite, entryBytes, inOfEntry}
+use Rattle.records.specs.Records.{entryWords, entryPriority, entryIn, entryOut, entryMatch, entryRewrite, entryAction, transferAt}
+use Rattle.records.specs.Records.{entryBytes, inOfEntry}
 
 -- F1: the lowest byte first
 little-endian : wordAt (0x78 ∷ 0x56 ∷ 0x34 ∷ 0x12 ∷ 0xef ∷ 0xcd ∷ 0xab ∷ 0x90 ∷ []) 1 ≡ 0x90abcdef
 unfolding wordAt
 little-endian = refl
 
--- F2 to F6: kind in bits 31..28, group or priority in 27..12, from-port in 23..12, port in 11..0
-fields : (kindOf 0x7fedcba9 ∷ rankOf 0x7fedcba9 ∷ fromOf 0x7fedcba9 ∷ portOf 0x7fedcba9 ∷ [])
-    ≡ 7 ∷ 0xfedc ∷ 0xedc ∷ 0xba9 ∷ []
+-- F2 to F6: kind or transfer in bits 31..28, group or priority in 27..12, from-port in 23..12, port in 11..0
+fields : (kindOf 0x7fedcba9 ∷ transferOf 0x7fedcba9 ∷ rankOf 0x7fedcba9 ∷ fromOf 0x7fedcba9 ∷ portOf 0x7fedcba9 ∷ [])
+    ≡ 7 ∷ 7 ∷ 0xfedc ∷ 0xedc ∷ 0xba9 ∷ []
 fields = refl
 
 -- ---- a record's words
@@ -37,9 +39,9 @@ edge-set : edgeAdmitted anEdge ≡ record { care = 1 ∷ 2 ∷ 3 ∷ 4 ∷ []; v
 unfolding wordAt
 edge-set = refl
 
--- F6: an entry with the first words 0x4fedcba9 and 0x00000321, then words 2 to 17
+-- F6: an entry with the first words 0x4fedcba9 and 0x20000321, then words 2 to 17
 abbrev anEntry : List ℕ
-anEntry = 0xa9 ∷ 0xcb ∷ 0xed ∷ 0x4f ∷ 0x21 ∷ 0x03 ∷ 0 ∷ 0 ∷ counting 16 2
+anEntry = 0xa9 ∷ 0xcb ∷ 0xed ∷ 0x4f ∷ 0x21 ∷ 0x03 ∷ 0 ∷ 0x20 ∷ counting 16 2
 
 entry-numbers : (entryWords ∷ entryPriority anEntry ∷ entryIn anEntry ∷ entryOut anEntry ∷ [])
     ≡ 18 ∷ 0xfedc ∷ 0xba9 ∷ 0x321 ∷ []
@@ -53,6 +55,14 @@ entry-match = refl
 entry-rewrite : entryRewrite anEntry ≡ record { mask = 10 ∷ 11 ∷ 12 ∷ 13 ∷ []; value = 14 ∷ 15 ∷ 16 ∷ 17 ∷ [] }
 unfolding wordAt
 entry-rewrite = refl
+
+-- F15: it swaps; and the transfers by their numbers
+entry-action : entryAction anEntry ≡ record { transfer = Swap; rewrite = entryRewrite anEntry }
+unfolding wordAt
+entry-action = refl
+
+transfers : (transferAt 0 ∷ transferAt 1 ∷ transferAt 2 ∷ []) ≡ Keep ∷ Copy ∷ Swap ∷ []
+transfers = refl
 
 -- ---- F8, where records stand: a start, two edges, two links and two entries
 

@@ -3,7 +3,10 @@
 use mathlib.Core.List.{List, [], _∷_}
 use Prim.Native.Nat.{ℕ, zero, suc, _+_, _*_}
 use Rattle.headers.specs.Sets.{Set, Rewrite}
-use Rattle.records.specs.Words.{wordAt, wordsFrom, bytesFrom, portOf, fromOf, rankOf}
+use Rattle.headers.specs.Actions.{Act}
+use Rattle.headers.specs.declared.Transfer.{Transfer}
+use Rattle.headers.specs.declared.Transfer.the-variants.{Keep, Copy, Swap}
+use Rattle.records.specs.Words.{wordAt, wordsFrom, bytesFrom, transferOf, portOf, fromOf, rankOf}
 use Rattle.records.specs.declared.Shape.{Shape}
 
 -- ---- the widths of a record
@@ -66,6 +69,21 @@ entryMatch x = setFrom headerWords x matchAt
 
 abbrev pub entryRewrite : List ℕ → Rewrite
 entryRewrite x = rewriteFrom headerWords x rewriteAt
+
+-- F15: the number of each transfer
+abbrev pub numberOf : Transfer → ℕ
+numberOf Keep = 0
+numberOf Copy = 1
+numberOf Swap = 2
+
+-- the transfer with a number; question 3 asks whether there is one
+abbrev pub transferAt : ℕ → Transfer
+transferAt zero = Keep
+transferAt (suc zero) = Copy
+transferAt (suc (suc k)) = Swap
+
+abbrev pub entryAction : List ℕ → Act
+entryAction x = record { transfer = transferAt (transferOf (wordAt x 1)); rewrite = entryRewrite x }
 
 -- ---- records by their number: "Order: start, edges, links, entries, end", so the numbers of edges, links and entries before a record say
 -- where it stands

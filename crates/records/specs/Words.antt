@@ -35,6 +35,10 @@ bytesFrom n f k = take (4 * n) (drop (4 * k) f)
 abbrev pub kindOf : ℕ → ℕ
 kindOf w = bits 31 28 w
 
+-- bits 31..28 of an entry's second word: the number of its transfer
+abbrev pub transferOf : ℕ → ℕ
+transferOf w = bits 31 28 w
+
 -- bits 11..0: an edge's port, a link's to-port, an entry's in-port; of an entry's second word the out-port
 abbrev pub portOf : ℕ → ℕ
 portOf w = bits 11 0 w

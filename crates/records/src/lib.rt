@@ -2,12 +2,14 @@
 // is in specs/Words.antt and specs/Records.antt.
 use headers::Action;
 use headers::HeaderSet;
+use headers::Transfer;
 ghost use mathlib.Core.Path.{_≡_};
 ghost use Prim.Native.Nat.{_+_, _*_, _<_, _≤_};
 ghost use lib.ListN.{length};
-ghost use Rattle.headers.specs.Forms.{formOf, rewriteOf};
-ghost use Rattle.records.specs.Words.{wordAt, wordsIn, wordsFrom, bytesFrom, kindOf, portOf, fromOf, rankOf};
-ghost use Rattle.records.specs.Records.{headerWords, setWords, edgeWords, entryWords, setFrom, edgeGroup, edgePort, edgeAdmitted, entryPriority, entryIn, entryOut, entryMatch, entryRewrite, placeOf};
+ghost use Rattle.headers.specs.Forms.{formOf, actOf};
+ghost use Rattle.records.specs.Words.{wordAt, wordsIn, wordsFrom, bytesFrom, kindOf, transferOf, portOf, fromOf, rankOf};
+ghost use Rattle.records.specs.Records.{headerWords, setWords, edgeWords, entryWords, setFrom, edgeGroup, edgePort, edgeAdmitted};
+ghost use Rattle.records.specs.Records.{entryPriority, entryIn, entryOut, entryMatch, transferAt, entryAction, placeOf};
 
 // How many records of each kind a file has.
 pub struct Shape {
@@ -37,6 +39,9 @@ pub const ENTRY: usize = REWRITE + SET;
 // Ports are numbers of 12 bits.
 pub const PORTS: u32 = 4096;
 
+// A kind, or the number of a transfer, is the four bits above these values.
+const BELOW_KIND: u32 = 0x1000_0000;
+
 // ---- words
 
 fn wide(b: u8) -> u32
@@ -60,7 +65,13 @@ pub fn word(file: &[u8], k: usize) -> u32
 pub fn kind_of(w: u32) -> u32
     ensures { λ r. ⌜ r ≡ kindOf w ⌝ }
 {
-    w / 0x1000_0000
+    w / BELOW_KIND
+}
+
+pub fn transfer_of(w: u32) -> u32
+    ensures { λ r. ⌜ r ≡ transferOf w ⌝ }
+{
+    w / BELOW_KIND
 }
 
 pub fn port_of(w: u32) -> u32
@@ -152,11 +163,25 @@ pub fn match_set(entry: &[u8]) -> HeaderSet
     set_at(entry, MATCH)
 }
 
+// The transfer with this number.
+fn transfer_at(number: u32) -> Transfer
+    ensures { λ r. ⌜ r ≡ transferAt number ⌝ }
+{
+    if number == 0 {
+        return Transfer::Keep;
+    }
+    if number == 1 {
+        return Transfer::Copy;
+    }
+    Transfer::Swap
+}
+
 pub fn action(entry: &[u8]) -> Action
     requires { ⌜ length (now entry) ≡ 4 * entryWords ⌝ }
-    ensures { λ r. ⌜ rewriteOf r ≡ entryRewrite (now (entry .entry)) ⌝ }
+    ensures { λ r. ⌜ actOf r ≡ entryAction (now (entry .entry)) ⌝ }
 {
     Action {
+        transfer: transfer_at(transfer_of(word(entry, 1))),
         mask: header_at(entry, REWRITE),
         value: header_at(entry, REWRITE + HEADER),
     }

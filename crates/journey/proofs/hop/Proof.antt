@@ -5,7 +5,7 @@ use Prim.Native.Nat.{ℕ, _<_}
 use borrow.Author.Needs.{needs}
 use denote.Ref.{now}
 use native.Mathlib.Omega.{arith}
-use Rattle.headers.specs.Sets.{Rewrite, rewritten}
+use Rattle.headers.specs.Actions.{Act, acted}
 use Rattle.file.proofs.Accepted.{few-entries}
 use Rattle.forwarding.specs.Fabric.{outPortOf, applied}
 use Rattle.forwarding.specs.Run.{takers}
@@ -69,8 +69,9 @@ header-is : (c : tie.After-apply) → let took = c .before .before .before .befo
 unfolding applied
 header-is c =
     let took = c .before .before .before .before in
-    ap₂ (λ (n : ℕ) (r : Rewrite). rewritten n r (start took .args .j .header)) (words-are (file took) (start took .args .shape) (start took .pre .0))
-    (sym (c .before .action .ensures ∙ entry-taken (c .before .before .before) .rewrite))
+    ap₂ (λ (n : ℕ) (a : Act). acted n a (start took .args .j .header))
+    (words-are (file took) (start took .args .shape) (start took .pre .0))
+    (sym (c .before .action .ensures ∙ entry-taken (c .before .before .before) .action))
     ∙ sym (c .apply .ensures)
 
 -- ---- the needs

@@ -20,6 +20,12 @@ word-requires c κs = search needs
 port-of-requires : tie.Need-port-of-requires
 port-of-requires c κs = search needs
 
+rank-of-requires : tie.Need-rank-of-requires
+rank-of-requires c κs = search needs
+
+transfer-of-requires : tie.Need-transfer-of-requires
+transfer-of-requires c κs = search needs
+
 port-of-requires-2 : tie.Need-port-of-requires-2
 port-of-requires-2 c κs = search needs
 
@@ -46,9 +52,17 @@ first-no-requires c κs = search needs
 
 returns-2 : tie.Need-returns-2
 returns-2 c =
-    let p = c .before .before .before .before .before .before .before .before .before .pre in
-    asked.entry-asked _ _ _ _ _ _ (p .0) (p .1 .0) (omega arith) _ _ _ _ _ _ _ (c .before .before .before .before .before .before .word .ensures) (c .before .before .before .before .before .port-of .ensures)
-    (c .before .before .before .before .port-of2 .ensures) (c .before .before .before .tidy-at .ensures) (c .before .before .tidy-at2 .ensures) (p .1 .1 .holds _ (omega arith)) (c .first-no .ensures)
+    let rewrite = c .before .before in
+    let matching = rewrite .before in
+    let out = matching .before in
+    let transfer = out .before in
+    let zero = transfer .before in
+    let port = zero .before in
+    let second = port .before in
+    let p = second .before .before .before .pre in
+    asked.entry-asked _ _ _ _ _ _ (p .0) (p .1 .0) (omega arith) _ _ _ _ _ _ _ _ _ (second .word .ensures) (port .port-of .ensures)
+    (zero .rank-of .ensures) (transfer .transfer-of .ensures) (out .port-of2 .ensures)
+    (matching .tidy-at .ensures) (rewrite .tidy-at2 .ensures) (p .1 .1 .holds _ (omega arith)) (c .first-no .ensures)
 
 pub entry-no-spec : {M : Type 1} → statement M
 entry-no-spec =
@@ -59,6 +73,8 @@ entry-no-spec =
     add-word
     word-requires
     port-of-requires
+    rank-of-requires
+    transfer-of-requires
     port-of-requires-2
     add-tidy-at
     tidy-at-requires

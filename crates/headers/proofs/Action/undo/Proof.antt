@@ -1,42 +1,90 @@
--- `Action::undo` meets its contract: the test that it makes is the one that decides the undone set. Assumes nothing.
-use mathlib.Core.Path.{sym, _∙_, ap}
+-- `Action::undo` meets its contract: the rewrite undone, then the transfer, then the match; 'empty' where one of them is.
+use mathlib.Core.Bool.{true, false}
+use mathlib.Core.Path.{_≡_, refl, _∙_}
 use borrow.Author.Needs.{needs}
-use Rattle.headers.specs.Sets.{undone, overlaps}
-use Rattle.headers.specs.Forms.{setOf}
-use Rattle.headers.specs.declared.HeaderSet.{HeaderSet}
-use Rattle.headers.proofs.Answers.{some-set, empty-set}
+use borrow.Author.Tests.{not-true, not-false}
+use Rattle.headers.specs.Sets.{Set, undone, intersection}
+use Rattle.headers.specs.Actions.{Act, untransferred, unacted, before}
+use Rattle.headers.specs.Forms.{setOf, maybeOf}
+use Rattle.headers.specs.declared.MaybeSet.{MaybeSet}
+use Rattle.headers.proofs.Answers.{then-set, then-empty}
 use Rattle.headers.proofs.Action.undo.Statement.{statement}
 use Rattle.headers.proofs.Action.undo.Tie as tie
 
-writes-requires : tie.Need-writes-requires
-writes-requires c κs = search needs
+-- ---- from the rewrite undone, u, and then the transfer, v
 
-overlaps-requires : tie.Need-overlaps-requires
-overlaps-requires c κs = search needs
+module _ (a : Act) (t matches : Set) (u : MaybeSet) (rewrite : u ≡ maybeOf (undone 4 (a .rewrite) t)) where
+  no-rewrite : u .some ≡ false → u ≡ maybeOf (before 4 matches a t)
+  unfolding unacted before
+  no-rewrite e =
+      then-empty (unacted 4 a t) (λ s. intersection 4 s matches) u
+      (then-empty (undone 4 (a .rewrite) t) (untransferred 4 (a .transfer)) u rewrite e) e
 
-widened-requires : tie.Need-widened-requires
-widened-requires c κs = search needs
+  module _ (some : u .some ≡ true) (v : MaybeSet) (transfer : v ≡ maybeOf (untransferred 4 (a .transfer) (setOf (u .set)))) where
+    both : v ≡ maybeOf (unacted 4 a t)
+    unfolding unacted
+    both = transfer ∙ then-set (undone 4 (a .rewrite) t) (untransferred 4 (a .transfer)) u rewrite some
 
-all-wild-requires : tie.Need-all-wild-requires
-all-wild-requires c κs = search needs
+    no-transfer : v .some ≡ false → v ≡ maybeOf (before 4 matches a t)
+    unfolding before
+    no-transfer e = then-empty (unacted 4 a t) (λ s. intersection 4 s matches) v both e
+
+    met : v .some ≡ true → (r : MaybeSet) → r ≡ maybeOf (intersection 4 (setOf (v .set)) matches)
+        → r ≡ maybeOf (before 4 matches a t)
+    unfolding before
+    met e r h = h ∙ then-set (unacted 4 a t) (λ s. intersection 4 s matches) v both e
+
+-- ---- the needs
+
+unwritten-requires : tie.Need-unwritten-requires
+unwritten-requires c κs = search needs
 
 returns : tie.Need-returns
-unfolding undone
-returns c =
-    let a = c .before .before .before .before .before .args in
-    some-set _ _ _
-    (ap (λ (w : HeaderSet). overlaps 4 (setOf (a .t)) (setOf w)) (sym (c .before .before .before .before .writes .ensures))
-    ∙ sym (c .before .before .before .overlaps .ensures) ∙ c .before .before .if1 .taken)
-    (c .widened .ensures)
+returns c = no-rewrite _ _ _ _ (c .before .before .unwritten .ensures) (not-true _ (c .if1 .taken))
+
+enum-told : tie.Need-enum-told
+enum-told c = search needs
+
+intersect-requires : tie.Need-intersect-requires
+intersect-requires c κs = search needs
 
 returns-2 : tie.Need-returns-2
-unfolding undone
 returns-2 c =
-    let a = c .before .before .before .before .args in
-    empty-set _ _ _
-    (ap (λ (w : HeaderSet). overlaps 4 (setOf (a .t)) (setOf w)) (sym (c .before .before .before .writes .ensures))
-    ∙ sym (c .before .before .overlaps .ensures) ∙ c .before .if1 .left)
-    (c .all-wild .ensures)
+    let undone = c .before .before .before .before in
+    met _ _ _ _ (undone .before .before .unwritten .ensures) (not-false _ (undone .if1 .left))
+    (record { some = true; set = undone .before .before .unwritten .result .set }) (rw (c .before .enum-told .given .1) refl) refl
+    _ (c .intersect .ensures)
+
+untransferred-requires : tie.Need-untransferred-requires
+untransferred-requires c κs = search needs
+
+returns-3 : tie.Need-returns-3
+returns-3 c =
+    let transferred = c .before .before in
+    let undone = transferred .before .before .before in
+    no-transfer _ _ _ _ (undone .before .before .unwritten .ensures) (not-false _ (undone .if1 .left))
+    _ (transferred .untransferred .ensures) (not-true _ (c .if2 .taken))
+
+intersect-requires-2 : tie.Need-intersect-requires-2
+intersect-requires-2 c κs = search needs
+
+returns-4 : tie.Need-returns-4
+returns-4 c =
+    let transferred = c .before .before .before .before in
+    let undone = transferred .before .before .before in
+    met _ _ _ _ (undone .before .before .unwritten .ensures) (not-false _ (undone .if1 .left)) _ (transferred .untransferred .ensures)
+    (not-false _ (c .before .before .if2 .left)) _ (c .intersect2 .ensures)
 
 pub undo-spec : {M : Type 1} → statement M
-undo-spec = tie.close (tie.spec writes-requires overlaps-requires widened-requires all-wild-requires returns returns-2)
+undo-spec =
+    tie.close
+    (tie.spec
+    unwritten-requires
+    returns
+    enum-told
+    intersect-requires
+    returns-2
+    untransferred-requires
+    returns-3
+    intersect-requires-2
+    returns-4)
