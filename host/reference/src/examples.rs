@@ -9,6 +9,7 @@ use crate::calls::Query;
 use crate::fabric::{Edge, Entry, Fabric, Link};
 use crate::file::to_le_bytes;
 use crate::set::{Rewrite, Set};
+use crate::transfer::Transfer;
 
 /// All wild.
 pub fn wild_query(port: u32, limit: u32, budget: u32) -> Query {
@@ -77,13 +78,14 @@ pub fn link(from: u16, to: u16) -> Link {
     Link { from, to }
 }
 
-/// An entry with an all-wild match and no rewrite.
+/// An entry with an all-wild match that leaves headers as they are.
 pub fn entry(priority: u16, in_port: u16, out_port: u16) -> Entry {
     Entry {
         priority,
         in_port,
         out_port,
         matching: Set::ALL_WILD,
+        transfer: Transfer::None,
         rewrite: Rewrite::NONE,
     }
 }

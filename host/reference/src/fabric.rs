@@ -1,6 +1,7 @@
 //! A fabric as plain records: what a fabric file says.
 
-use crate::set::{Rewrite, Set};
+use crate::set::{Header, Rewrite, Set};
+use crate::transfer::Transfer;
 
 /// Ports are 1 to 4,095, so a table by port has this length.
 pub const PORTS: usize = 4096;
@@ -31,7 +32,22 @@ pub struct Entry {
     pub in_port: u16,
     pub out_port: u16,
     pub matching: Set,
+    pub transfer: Transfer,
     pub rewrite: Rewrite,
+}
+
+impl Entry {
+    /// What it makes of a header: it copies or swaps "before the rewrite".
+    pub fn apply(&self, header: Header) -> Header {
+        self.rewrite.apply(self.transfer.apply(header))
+    }
+
+    /// The headers that it brings into this set. What was done last is undone
+    /// first.
+    pub fn undo(&self, wanted: &Set) -> Option<Set> {
+        let before_rewrite = self.rewrite.undo(wanted)?;
+        self.transfer.undo(&before_rewrite)
+    }
 }
 
 /// All records in file order.

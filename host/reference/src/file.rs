@@ -1,5 +1,6 @@
 //! The fabric file, read and written: document 01, "The fabric file" and
-//! questions 1 to 7.
+//! questions 1 to 7, with the transfer that document 02 puts in "bits 31..28 of
+//! an entry's second word" (2.5).
 
 use crate::fabric::{
     Edge, Entry, Fabric, Link, MOST_EDGES, MOST_ENTRIES, MOST_ENTRIES_PER_IN_PORT, MOST_LINKS,
@@ -7,6 +8,7 @@ use crate::fabric::{
 };
 use crate::refusal::{ask, Refusal};
 use crate::set::{from_words, to_words, Rewrite, Set};
+use crate::transfer::Transfer;
 
 pub const START: u32 = 1;
 pub const EDGE: u32 = 2;
@@ -95,7 +97,7 @@ fn record_at(words: &[u32], place: usize, last: u32) -> Option<&[u32]> {
     let record = words.get(place..place + length)?;
     let zero_bits = match kind {
         LINK => first & 0x0f00_0000,
-        ENTRY => record[1] & 0xffff_f000,
+        ENTRY => record[1] & 0x0fff_f000,
         END => first & 0x0fff_ffff,
         _ => 0,
     };
@@ -111,7 +113,8 @@ struct Reader {
     entries_at: [u8; PORTS],
 }
 
-/// Questions 4 to 7 of one record.
+/// Questions 4 to 7 of one record, and before them what question 3 asks of an
+/// entry's transfer.
 impl Reader {
     fn new() -> Reader {
         Reader {
@@ -156,12 +159,14 @@ impl Reader {
     }
 
     fn entry(&mut self, place: usize, record: &[u32]) -> Result<(), Refusal> {
+        let transfer = Transfer::numbered(record[1] >> 28).ok_or(Refusal::new(3, place))?;
         let rewrite = set_of(&record[10..18]);
         let entry = Entry {
             priority: (record[0] >> 12) as u16,
             in_port: low_port(record[0]),
             out_port: low_port(record[1]),
             matching: set_of(&record[2..10]),
+            transfer,
             rewrite: Rewrite {
                 mask: rewrite.care,
                 value: rewrite.value,
@@ -209,7 +214,8 @@ fn link_record(link: &Link) -> u32 {
 
 fn entry_record(entry: &Entry) -> Vec<u32> {
     let first = ENTRY << 28 | u32::from(entry.priority) << 12 | port_bits(entry.in_port);
-    let mut record = vec![first, port_bits(entry.out_port)];
+    let second = (entry.transfer as u32) << 28 | port_bits(entry.out_port);
+    let mut record = vec![first, second];
     record.extend(to_words(entry.matching.care));
     record.extend(to_words(entry.matching.value));
     record.extend(to_words(entry.rewrite.mask));

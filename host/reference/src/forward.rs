@@ -1,5 +1,5 @@
 //! Forwarding a packet: document 01, "Forwarding", with document 02's equal
-//! priorities (2.3).
+//! priorities (2.3) and reply entries (2.5).
 
 use crate::fabric::Fabric;
 use crate::set::Header;
@@ -48,7 +48,7 @@ pub struct Run {
     /// "Left: out-port; dropped or lost: in-port; travelling: next in-port";
     /// tied: in-port.
     pub port: u16,
-    /// The header then, after the last rewrite made.
+    /// The header then, after all that was done to it.
     pub header: Header,
     /// Entries taken, in travelling order.
     pub entries: Vec<usize>,
@@ -68,7 +68,8 @@ pub fn run(fabric: &Fabric, start: u16, header: Header, limit: usize) -> Run {
     at
 }
 
-/// The next hop of a packet that travels: "It rewrites, and one hop is made."
+/// The next hop of a packet that travels: "It rewrites, and one hop is made." A
+/// drop does all that too.
 fn hop(fabric: &Fabric, at: &mut Run) {
     let takers = takers(fabric, at.port, at.header);
     let [number] = takers[..] else {
@@ -79,7 +80,7 @@ fn hop(fabric: &Fabric, at: &mut Run) {
         return;
     };
     let entry = &fabric.entries[number];
-    at.header = entry.rewrite.apply(at.header);
+    at.header = entry.apply(at.header);
     at.entries.push(number);
     if entry.out_port == 0 {
         at.fate = Fate::Dropped;

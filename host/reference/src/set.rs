@@ -80,6 +80,14 @@ impl Set {
         }
     }
 
+    /// Care and value, each changed in the same way.
+    pub(crate) fn map(&self, change: impl Fn(u128) -> u128) -> Set {
+        Set {
+            care: change(self.care),
+            value: change(self.value),
+        }
+    }
+
     /// The lowest header: "wild bits 0".
     pub fn lowest(&self) -> Header {
         self.value
@@ -152,9 +160,6 @@ impl Rewrite {
     /// all masked bits wild."
     pub fn undo(&self, wanted: &Set) -> Option<Set> {
         let clash = (wanted.value ^ self.value) & wanted.care & self.mask;
-        (clash == 0).then_some(Set {
-            care: wanted.care & !self.mask,
-            value: wanted.value & !self.mask,
-        })
+        (clash == 0).then_some(wanted.map(|bits| bits & !self.mask))
     }
 }

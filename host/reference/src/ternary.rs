@@ -5,10 +5,11 @@
 use crate::calls::Query;
 use crate::fabric::{Edge, Entry, Fabric};
 use crate::set::Set;
+use crate::transfer::Transfer;
 
 /// Byte `i` is a `0`, `1` or `x` for bit `i` in document 01's order, from word 0
-/// bit 31.
-type Ternary = [u8; 128];
+/// bit 31: the first 32 are nw_src, the next 32 nw_dst.
+pub type Ternary = [u8; 128];
 
 /// What happens in a back-trace.
 #[derive(Clone, Debug, PartialEq, Eq)]
@@ -23,7 +24,18 @@ pub enum Event {
 
 /// The events of the whole back-trace; none if there are more than `most`.
 pub fn events(fabric: &Fabric, query: &Query, most: usize) -> Option<Vec<Event>> {
+    events_by(undo, fabric, query, most)
+}
+
+/// The same where entries are undone in this way, right or wrong.
+pub fn events_by(
+    undo: impl FnMut(&Entry, &Ternary) -> Option<Ternary>,
+    fabric: &Fabric,
+    query: &Query,
+    most: usize,
+) -> Option<Vec<Event>> {
     let mut teller = Teller {
+        undo,
         fabric,
         most,
         path: Vec::new(),
@@ -82,7 +94,8 @@ pub fn list(fabric: &Fabric, query: &Query, events: &[Event]) -> Option<Vec<u32>
     Some(words)
 }
 
-struct Teller<'f> {
+struct Teller<'f, U> {
+    undo: U,
     fabric: &'f Fabric,
     most: usize,
     /// The entries in travelling order.
@@ -90,7 +103,7 @@ struct Teller<'f> {
     events: Vec<Event>,
 }
 
-impl Teller<'_> {
+impl<U: FnMut(&Entry, &Ternary) -> Option<Ternary>> Teller<'_, U> {
     fn tell(&mut self, event: Event) -> Option<()> {
         self.events.push(event);
         (self.events.len() <= self.most).then_some(())
@@ -102,11 +115,7 @@ impl Teller<'_> {
                 continue;
             }
             self.tell(Event::Unit)?;
-            let written = from_set(&Set {
-                care: entry.rewrite.mask,
-                value: entry.rewrite.value,
-            });
-            let undone = undo(wanted, &written);
+            let undone = (self.undo)(entry, wanted);
             if let Some(part) = undone.and_then(|set| both(&set, &from_set(&entry.matching))) {
                 self.path.insert(0, number);
                 self.carve(&part, &self.beaters(number), left)?;
@@ -154,7 +163,7 @@ impl Teller<'_> {
     }
 }
 
-fn from_set(set: &Set) -> Ternary {
+pub fn from_set(set: &Set) -> Ternary {
     let mut ternary = [b'x'; 128];
     for (i, trit) in ternary.iter_mut().enumerate() {
         let bit = 127 - i;
@@ -194,14 +203,46 @@ fn both(one: &Ternary, other: &Ternary) -> Option<Ternary> {
     (!apart(one, other)).then_some(meet)
 }
 
-fn undo(wanted: &Ternary, written: &Ternary) -> Option<Ternary> {
+/// The rewrite is undone first, then what came before it.
+pub fn undo(entry: &Entry, wanted: &Ternary) -> Option<Ternary> {
+    undo_transfer(entry, &undo_rewrite(entry, wanted)?)
+}
+
+pub fn undo_rewrite(entry: &Entry, wanted: &Ternary) -> Option<Ternary> {
+    let written = from_set(&Set {
+        care: entry.rewrite.mask,
+        value: entry.rewrite.value,
+    });
     let mut before = *wanted;
-    for (trit, &b) in before.iter_mut().zip(written) {
+    for (trit, &b) in before.iter_mut().zip(&written) {
         if b != b'x' {
             *trit = b'x';
         }
     }
-    (!apart(wanted, written)).then_some(before)
+    (!apart(wanted, &written)).then_some(before)
+}
+
+/// Of each bit of nw_src and the same one of nw_dst: what they were before.
+pub fn undo_transfer(entry: &Entry, wanted: &Ternary) -> Option<Ternary> {
+    let mut before = *wanted;
+    for src in 0..32 {
+        let dst = src + 32;
+        (before[src], before[dst]) = match entry.transfer {
+            Transfer::None => (wanted[src], wanted[dst]),
+            Transfer::Copy => (joined(wanted[src], wanted[dst])?, b'x'),
+            Transfer::Swap => (wanted[dst], wanted[src]),
+        };
+    }
+    Some(before)
+}
+
+/// What is wanted of one bit that has to be both.
+fn joined(one: u8, other: u8) -> Option<u8> {
+    match (one, other) {
+        (b'x', wanted) | (wanted, b'x') => Some(wanted),
+        (b'0', b'0') | (b'1', b'1') => Some(one),
+        _ => None,
+    }
 }
 
 fn carved(part: &Ternary, by: &Ternary) -> Vec<Ternary> {

@@ -89,12 +89,12 @@ impl<'i, V: FnMut(&Find) -> ControlFlow<()>> Tracer<'i, '_, V> {
     /// "At a stop, the entries with that out-port are taken up in file order,
     /// one unit each. Undo the rewrite for T and intersect with the match; if
     /// empty, next entry. Carve by the entries that beat it, in file order."
+    /// With the rewrite, the copy or swap before it is undone.
     fn stop(&mut self, out_port: u16, wanted: &Set, left: usize) -> Result<(), Halt> {
         let index = self.index;
         for entry in index.with_out_port(out_port) {
             self.unit()?;
-            let rewrite = &index.fabric().entries[usize::from(entry)].rewrite;
-            let undone = rewrite.undo(wanted);
+            let undone = index.fabric().entries[usize::from(entry)].undo(wanted);
             let part = undone.and_then(|set| set.intersect(index.matching(entry)));
             if let Some(part) = part {
                 self.path[left - 1] = entry;

@@ -1,10 +1,11 @@
 //! Plain forwarding of one packet under every choice among equals: document
-//! 01's "Forwarding" and document 02's 2.3, sentence by sentence. It takes only
-//! the plain records from the rest, and knows nothing of a trace.
+//! 01's "Forwarding" and document 02's 2.3 and 2.5, sentence by sentence. It
+//! takes only the plain records from the rest, and knows nothing of a trace.
 
 use crate::calls::Query;
 use crate::fabric::{Entry, Fabric};
-use crate::set::{to_words, Header, Rewrite, Set};
+use crate::set::{from_words, to_words, Header, Rewrite, Set};
+use crate::transfer::Transfer;
 
 /// Word 0 of a run.
 pub const LEFT: u32 = 0;
@@ -155,7 +156,7 @@ impl<'f> Packet<'f> {
     /// link leads on, whatever stands there."
     fn taken(&self, mut way: Way, number: u32) -> Way {
         let entry = &self.fabric.entries[number as usize];
-        way.header = rewritten(entry, way.header);
+        way.header = rewritten(entry, transferred(entry, way.header));
         way.entries.push(number);
         if entry.out_port == 0 {
             return way.ended(DROPPED);
@@ -189,6 +190,16 @@ pub fn takers(fabric: &Fabric, in_port: u16, header: Header) -> Vec<u32> {
 /// "A header is in it if it equals the value on every care bit."
 pub fn holds(set: &Set, header: Header) -> bool {
     header & set.care == set.value & set.care
+}
+
+/// "1 to copy nw_src over nw_dst or 2 to swap them, before the rewrite."
+fn transferred(entry: &Entry, header: Header) -> Header {
+    let [src, dst, ports, rest] = to_words(header);
+    match entry.transfer {
+        Transfer::None => header,
+        Transfer::Copy => from_words([src, src, ports, rest]),
+        Transfer::Swap => from_words([dst, src, ports, rest]),
+    }
 }
 
 /// "Masked bits become the value's, others stay."

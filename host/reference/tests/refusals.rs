@@ -102,15 +102,38 @@ fn question_3_zero_bits() {
         let link = 0x30001002 | 1 << bit;
         assert_eq!(refusal_of(&[link, END]), Some((3, 1)));
     }
-    for bit in 12..32 {
-        let mut words = record(0x40000001);
-        words[1] = 1 << bit;
-        words.push(END);
-        assert_eq!(refusal_of(&words), Some((3, 1)));
+    for bit in 12..28 {
+        assert_eq!(refusal_of(&entry_with(1 << bit)), Some((3, 1)));
     }
     for bit in 0..28 {
         assert_eq!(refusal_of(&[0x30001002, END | 1 << bit]), Some((3, 2)));
     }
+}
+
+/// An entry with this second word, and the end.
+fn entry_with(second: u32) -> Vec<u32> {
+    let mut words = record(0x40000001);
+    words[1] = second;
+    words.push(END);
+    words
+}
+
+/// "Values above 2 fail question 3", and the bits below stay zero bits.
+#[test]
+fn question_3_transfer() {
+    for transfer in 0..16 {
+        let refusal = (transfer > 2).then_some((3, 1));
+        assert_eq!(refusal_of(&entry_with(transfer << 28)), refusal);
+        assert_eq!(refusal_of(&entry_with(transfer << 28 | 0xfff)), refusal);
+        for bit in 12..28 {
+            let words = entry_with(transfer << 28 | 1 << bit);
+            assert_eq!(refusal_of(&words), Some((3, 1)));
+        }
+    }
+    // The place is the record's first word, also of a later entry.
+    let before = &entry_with(0x2000_0000)[..18];
+    let second = [before, &entry_with(0x3000_0000)[..]].concat();
+    assert_eq!(refusal_of(&second), Some((3, 19)));
 }
 
 #[test]
@@ -210,9 +233,11 @@ fn questions_3_to_7_in_turn() {
     let mut everything = entry(0, 0, 0);
     everything.matching.value = 1;
     let mut words = to_le_words(&write(&fabric(&[], &[], &[everything])));
-    words[2] = 0x1000;
     let of = |words: &[u32]| refusal_of_bytes(&to_le_bytes(words));
-    assert_eq!(of(&words), Some((3, 1)));
+    for second in [0x1000, 0x3000_0000] {
+        words[2] = second;
+        assert_eq!(of(&words), Some((3, 1)));
+    }
     words[2] = 0;
     assert_eq!(of(&words), Some((4, 1)));
     words[1] |= 1;

@@ -13,7 +13,9 @@ use crate::file::read;
 use crate::refusal::Refusal;
 
 use chance::{flipped, record_changed, words_changed};
-use layout::{misplaced_end, stray_zero_bit, wrong_kind, wrong_length, wrong_start, File};
+use layout::{
+    misplaced_end, stray_zero_bit, wrong_kind, wrong_length, wrong_start, wrong_transfer, File,
+};
 use records::{
     link_misplaced, too_many_edges_or_links, too_many_entries, value_outside, wrong_edge_port,
     wrong_entry_port, wrong_link_port,
@@ -29,7 +31,7 @@ macro_rules! ways {
         }
 
         impl Damage {
-            pub const ALL: [Damage; 43] = [$(Damage::$how,)*];
+            pub const ALL: [Damage; 45] = [$(Damage::$how,)*];
         }
     };
 }
@@ -53,6 +55,8 @@ ways! {
     LinkZeroBits,
     EntryZeroBits,
     EndZeroBits,
+    TransferAboveTwo,
+    TransferAndZeroBits,
     EndInTheMiddle,
     WordsAfterEnd,
     // Question 4.
@@ -118,6 +122,7 @@ pub fn inflict(how: Damage, bytes: &[u8], rng: &mut Rng) -> Damaged {
         Truncated | Padded | WrongCount | WrongVersion | NoStart => wrong_start(how, file, rng),
         NoWordHere | UnknownKind | SmallerKind | RecordNotInside => wrong_kind(how, file, rng),
         LinkZeroBits | EntryZeroBits | EndZeroBits => stray_zero_bit(how, file, rng),
+        TransferAboveTwo | TransferAndZeroBits => wrong_transfer(how, file, rng),
         EndInTheMiddle | WordsAfterEnd => misplaced_end(how, file, rng),
         EdgePortZero | EdgesFalling | EdgesEqual => wrong_edge_port(how, fabric, rng),
         LinkFromZero | LinkToZero | LinksFalling | LinksEqual | LinkToItself => {

@@ -4,8 +4,9 @@ use super::equals::settle;
 use super::parts::{mask_of, proper, some_ports, spread_bits, tidy};
 use super::small::random_edge;
 use super::Rng;
+use crate::examples::entry;
 use crate::fabric::{Entry, Fabric, MOST_ENTRIES_PER_IN_PORT};
-use crate::set::{Rewrite, Set};
+use crate::set::Set;
 
 /// One allow with up to 63 beaters, standing anywhere in the file.
 pub fn beater_chain(rng: &mut Rng) -> Fabric {
@@ -24,15 +25,14 @@ pub fn beater_chain(rng: &mut Rng) -> Fabric {
             value: rng.bits(),
         };
         let matching = if rng.once_in(8) { tos } else { port };
+        let priority = rng.between(1, 3) as u16;
+        let out_port = rng.one_of([0, 0, 0, target]);
         fabric.entries.push(Entry {
-            priority: rng.between(1, 3) as u16,
-            in_port: start,
-            out_port: rng.one_of([0, 0, 0, target]),
             matching: proper(matching),
-            rewrite: Rewrite::NONE,
+            ..entry(priority, start, out_port)
         });
     }
-    fabric.entries.push(allow(start, target));
+    fabric.entries.push(entry(0, start, target));
     rng.shuffle(&mut fabric.entries);
     settle(rng, &mut fabric);
     fabric
@@ -46,17 +46,14 @@ pub fn wild_under_denies(rng: &mut Rng) -> Fabric {
     for _ in 0..rng.between(1, 8) {
         let bits = spread_bits(rng, 3);
         fabric.entries.push(Entry {
-            priority: 2,
-            in_port: start,
-            out_port: 0,
             matching: proper(Set {
                 care: mask_of(&bits),
                 value: rng.bits(),
             }),
-            rewrite: Rewrite::NONE,
+            ..entry(2, start, 0)
         });
     }
-    fabric.entries.push(allow(start, target));
+    fabric.entries.push(entry(0, start, target));
     rng.shuffle(&mut fabric.entries);
     settle(rng, &mut fabric);
     fabric
@@ -73,14 +70,4 @@ fn two_edges(rng: &mut Rng) -> Fabric {
         fabric.edges[0].group = fabric.edges[1].group;
     }
     fabric
-}
-
-fn allow(in_port: u16, out_port: u16) -> Entry {
-    Entry {
-        priority: 0,
-        in_port,
-        out_port,
-        matching: Set::ALL_WILD,
-        rewrite: Rewrite::NONE,
-    }
 }

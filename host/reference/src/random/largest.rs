@@ -3,6 +3,7 @@
 use super::equals::settle;
 use super::parts::{address, field_rewrite, in_port, out_port, prefix_of, some_ports, tidy};
 use super::Rng;
+use crate::examples::entry;
 use crate::fabric::{
     Edge, Entry, Fabric, Link, MOST_EDGES, MOST_ENTRIES, MOST_ENTRIES_PER_IN_PORT, MOST_LINKS,
     PORTS,
@@ -38,12 +39,11 @@ pub fn largest(rng: &mut Rng) -> Fabric {
         let out_port = out_port(rng, &fabric, &ports, in_port);
         let to = address(0, rng.below(MOST_EDGES));
         let length = rng.one_of([0, 16, 20, 24]);
+        let priority = rng.below(4) as u16;
         fabric.entries.push(Entry {
-            priority: rng.below(4) as u16,
-            in_port,
-            out_port,
             matching: prefix_of(1, to, length),
             rewrite: field_rewrite(rng),
+            ..entry(priority, in_port, out_port)
         });
     }
     settle(rng, &mut fabric);

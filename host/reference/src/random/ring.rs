@@ -3,8 +3,9 @@
 use super::equals::settle;
 use super::parts::{address, field_rewrite, prefix_of, some_ports, tidy};
 use super::Rng;
+use crate::examples::entry;
 use crate::fabric::{Edge, Entry, Fabric, Link};
-use crate::set::{Rewrite, Set};
+use crate::set::Set;
 
 /// A ring of 2 to 16 switches, each with an edge: the way round takes as
 /// many hops. Packets for no switch go round without end.
@@ -27,11 +28,9 @@ pub fn ring(rng: &mut Rng) -> Fabric {
         let to_here = prefix_of(1, address(switch, 0), 16);
         let mut add = |in_port, out_port, priority, matching| {
             fabric.entries.push(Entry {
-                priority,
-                in_port,
-                out_port,
                 matching,
                 rewrite: field_rewrite(rng),
+                ..entry(priority, in_port, out_port)
             });
         };
         add(ring_in, edge, 5, to_here);
@@ -41,21 +40,14 @@ pub fn ring(rng: &mut Rng) -> Fabric {
         if rng.once_in(3) {
             let in_port = rng.one_of([edge, ring_in]);
             let from = address(rng.below(number), 0);
-            fabric.entries.push(deny(in_port, prefix_of(0, from, 16)));
+            fabric.entries.push(Entry {
+                matching: prefix_of(0, from, 16),
+                ..entry(4, in_port, 0)
+            });
         }
     }
     tidy(&mut fabric);
     rng.shuffle(&mut fabric.entries);
     settle(rng, &mut fabric);
     fabric
-}
-
-fn deny(in_port: u16, matching: Set) -> Entry {
-    Entry {
-        priority: 4,
-        in_port,
-        out_port: 0,
-        matching,
-        rewrite: Rewrite::NONE,
-    }
 }

@@ -4,6 +4,7 @@
 use super::equals::settle;
 use super::parts::{in_port, out_port, rewrite_over, set_over, some_ports, spread_bits, tidy};
 use super::Rng;
+use crate::examples::entry;
 use crate::fabric::{Edge, Entry, Fabric, Link};
 
 /// A fabric that cares for and rewrites only these bits.
@@ -116,12 +117,11 @@ fn shaped(rng: &mut Rng, shape: &Shape) -> Small {
     for _ in 0..shape.entries {
         let in_port = in_port(rng, &fabric, &ports, shape.inward);
         let out_port = out_port(rng, &fabric, &ports, in_port);
+        let priority = (lowest + rng.below(shape.priorities) * step) as u16;
         fabric.entries.push(Entry {
-            priority: (lowest + rng.below(shape.priorities) * step) as u16,
-            in_port,
-            out_port,
             matching: set_over(rng, &bits, shape.cared),
             rewrite: rewrite_over(rng, &bits, 3),
+            ..entry(priority, in_port, out_port)
         });
     }
     Small { fabric, bits }
@@ -162,12 +162,11 @@ fn ring_entry(rng: &mut Rng, bits: &[u32], ports: [u16; 3], priority: u16) -> En
     let anywhere = rng.one_of([0, edge, ring_out, ring_out]);
     let onward = priority == 0 || anywhere == in_port;
     let most_cared = if priority == 0 { 0 } else { 4 };
+    let out_port = if onward { ring_out } else { anywhere };
     Entry {
-        priority: priority.min(3),
-        in_port,
-        out_port: if onward { ring_out } else { anywhere },
         matching: set_over(rng, bits, most_cared),
         rewrite: rewrite_over(rng, bits, 2),
+        ..entry(priority.min(3), in_port, out_port)
     }
 }
 

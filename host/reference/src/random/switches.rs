@@ -3,6 +3,7 @@
 use super::equals::settle;
 use super::parts::{address, field_rewrite, prefix_of, some_ports, tidy};
 use super::Rng;
+use crate::examples::entry;
 use crate::fabric::{Edge, Entry, Fabric, Link};
 use crate::set::{from_words, Set};
 
@@ -65,12 +66,11 @@ fn add_routes(rng: &mut Rng, fabric: &mut Fabric, own: &[u16], in_port: u16, swi
             true => 0,
             false => *rng.pick(&others).unwrap_or(&0),
         };
+        let priority = length as u16 + rng.one_of([0, 8]);
         fabric.entries.push(Entry {
-            priority: length as u16 + rng.one_of([0, 8]),
-            in_port,
-            out_port,
             matching: route(rng, prefix_of(1, to, length)),
             rewrite: field_rewrite(rng),
+            ..entry(priority, in_port, out_port)
         });
     }
 }

@@ -1,8 +1,8 @@
 //! A routed campus.
 
 use super::{deny, rewrite, set, Benchmark};
+use crate::examples::entry;
 use crate::fabric::{Edge, Entry, Fabric, Link};
-use crate::set::Rewrite;
 
 const BUILDINGS: u16 = 6;
 const TENANTS: u16 = 8;
@@ -62,11 +62,9 @@ fn add_tenant(fabric: &mut Fabric, building: u16, tenant: u16) {
     for other in (0..BUILDINGS).filter(|&other| other != building) {
         let to = network(other, tenant);
         fabric.entries.push(Entry {
-            priority: 20,
-            in_port: port,
-            out_port: uplink_port(building, other % CORES),
             matching: set([0xffff_ff00, 0xffff_ff00, 0, 0], [own, to, 0, 0]),
             rewrite: rewrite([0, 0, 0, 0xffff_0000], [0, 0, 0, tag(tenant)]),
+            ..entry(20, port, uplink_port(building, other % CORES))
         });
     }
 }
@@ -81,11 +79,9 @@ fn add_uplink(fabric: &mut Fabric, building: u16, core: u16) {
         let to = network(building, tenant);
         let care = [0, 0xffff_ff00, 0, 0xffff_0000];
         fabric.entries.push(Entry {
-            priority: 24,
-            in_port: up,
-            out_port: tenant_port(building, tenant),
             matching: set(care, [0, to, 0, tag(tenant)]),
             rewrite: rewrite([0, 0, 0, 0xffff_0000], [0; 4]),
+            ..entry(24, up, tenant_port(building, tenant))
         });
     }
 }
@@ -97,11 +93,8 @@ fn add_core_routes(fabric: &mut Fabric, building: u16, core: u16) {
     fabric.entries.push(deny(32, in_port, matching));
     for other in (0..BUILDINGS).filter(|&other| other != building) {
         fabric.entries.push(Entry {
-            priority: 16,
-            in_port,
-            out_port: core_port(other, core),
             matching: set([0, 0xffff_0000, 0, 0], [0, network(other, 0), 0, 0]),
-            rewrite: Rewrite::NONE,
+            ..entry(16, in_port, core_port(other, core))
         });
     }
 }

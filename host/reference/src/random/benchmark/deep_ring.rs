@@ -1,6 +1,7 @@
 //! The deep ring.
 
 use super::{deny, one_group, rewrite, set, Benchmark};
+use crate::examples::entry;
 use crate::fabric::{Entry, Fabric, Link, MOST_ENTRIES_PER_IN_PORT};
 use crate::set::Set;
 
@@ -62,11 +63,9 @@ fn allow(priority: u16, in_port: u16, out_port: u16, matching: Set, lap: Option<
     let tag = if lap.is_some() { 0xffff_0000 } else { 0 };
     let value = lap.unwrap_or(0) << 16;
     Entry {
-        priority,
-        in_port,
-        out_port,
         matching,
         rewrite: rewrite([u32::MAX, u32::MAX, 0, tag], [0, 0, 0, value]),
+        ..entry(priority, in_port, out_port)
     }
 }
 

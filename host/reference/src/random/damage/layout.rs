@@ -147,11 +147,25 @@ pub(super) fn wrong_kind(how: Damage, mut file: File, rng: &mut Rng) -> Damaged 
 pub(super) fn stray_zero_bit(how: Damage, mut file: File, rng: &mut Rng) -> Damaged {
     let (kind, word, low, high) = match how {
         Damage::LinkZeroBits => (LINK, 0, 24, 27),
-        Damage::EntryZeroBits => (ENTRY, 1, 12, 31),
+        Damage::EntryZeroBits => (ENTRY, 1, 12, 27),
         _ => (END, 0, 0, 27),
     };
     let record = *rng.pick(&file.of_kind(kind)).unwrap_or(&0);
     file.records[record][word] |= 1 << rng.between(low, high);
+    let place = file.place(record);
+    file.refused(3, place)
+}
+
+/// 3 to 15, and at times zero bits below it that aren't zero.
+pub(super) fn wrong_transfer(how: Damage, mut file: File, rng: &mut Rng) -> Damaged {
+    let record = *rng.pick(&file.of_kind(ENTRY)).unwrap_or(&0);
+    let zero_bits = match how {
+        Damage::TransferAndZeroBits => rng.between(1, 0xffff) as u32,
+        _ => 0,
+    };
+    let transfer = rng.between(3, 15) as u32;
+    let out_port = file.records[record][1] & 0xfff;
+    file.records[record][1] = transfer << 28 | zero_bits << 12 | out_port;
     let place = file.place(record);
     file.refused(3, place)
 }

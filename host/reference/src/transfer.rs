@@ -1,0 +1,51 @@
+//! What an entry does with the addresses before its rewrite: document 02's
+//! reply entries (2.5).
+
+use crate::set::{Header, Set};
+
+/// Word 0 of a header.
+const NW_SRC: u128 = 0xffff_ffff << 96;
+/// Word 1.
+const NW_DST: u128 = 0xffff_ffff << 64;
+
+/// "1 to copy nw_src over nw_dst or 2 to swap them, before the rewrite."
+#[derive(Clone, Copy, Debug, PartialEq, Eq, Hash)]
+pub enum Transfer {
+    None = 0,
+    Copy = 1,
+    Swap = 2,
+}
+
+impl Transfer {
+    /// The transfer of this number; "values above 2" are none's.
+    pub fn numbered(number: u32) -> Option<Transfer> {
+        let all = [Transfer::None, Transfer::Copy, Transfer::Swap];
+        all.into_iter().find(|&transfer| transfer as u32 == number)
+    }
+
+    pub fn apply(self, header: Header) -> Header {
+        let src_in_dst = (header & NW_SRC) >> 32;
+        let dst_in_src = (header & NW_DST) << 32;
+        match self {
+            Transfer::None => header,
+            Transfer::Copy => header & !NW_DST | src_in_dst,
+            Transfer::Swap => header & !NW_DST & !NW_SRC | src_in_dst | dst_in_src,
+        }
+    }
+
+    /// "Undoing it may join two wanted bits into one and be empty if they
+    /// disagree": after a copy, what is wanted of nw_dst is wanted of the old
+    /// nw_src, and the old nw_dst may be anything.
+    pub fn undo(self, wanted: &Set) -> Option<Set> {
+        match self {
+            Transfer::None => Some(*wanted),
+            Transfer::Copy => {
+                let of_the_others = wanted.map(|bits| bits & !NW_DST);
+                let of_the_copy = wanted.map(|bits| (bits & NW_DST) << 32);
+                of_the_others.intersect(&of_the_copy)
+            }
+            // Swapping once more brings them back.
+            Transfer::Swap => Some(wanted.map(|bits| self.apply(bits))),
+        }
+    }
+}
