@@ -7,7 +7,7 @@ use crate::file;
 use crate::forward;
 use crate::index::Index;
 use crate::refusal::{ask, Refusal};
-use crate::set::{from_words, to_words, Header, Set};
+use crate::set::{to_words, Header, Set};
 use crate::trace::{trace, Ended, Find, MOST_HOPS};
 
 /// Words 1 to 11 of the program's query.
@@ -25,10 +25,7 @@ pub struct Query {
 impl Query {
     /// The asked set; a run's is its header alone.
     pub fn asked(&self) -> Set {
-        Set {
-            care: from_words(self.care),
-            value: from_words(self.value),
-        }
+        Set::of_words(self.care, self.value)
     }
 }
 

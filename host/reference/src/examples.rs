@@ -2,8 +2,12 @@
 //! tests here and in the folder above both ask about.
 
 mod equals;
+mod transfers;
 
 pub use equals::{alike, equals_behind_a_link, equals_below, leak_by_choice, ring_of_equals};
+pub use transfers::{
+    equals_after_a_copy, nw_dst, nw_src, one_reply, replies_behind_a_link, swapped_and_dropped,
+};
 
 use crate::calls::Query;
 use crate::fabric::{Edge, Entry, Fabric, Link};
@@ -108,10 +112,7 @@ pub fn tp_dst(port: u32) -> Set {
 
 /// The rewrite of tp_dst to this.
 pub fn to_tp_dst(port: u32) -> Rewrite {
-    Rewrite {
-        mask: 0xffff << 32,
-        value: u128::from(port) << 32,
-    }
+    Rewrite::to(tp_dst(port))
 }
 
 /// Two edges, links and rewrites: every kind of record, and a way of three hops

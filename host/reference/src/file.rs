@@ -7,7 +7,7 @@ use crate::fabric::{
     PORTS,
 };
 use crate::refusal::{ask, Refusal};
-use crate::set::{from_words, to_words, Rewrite, Set};
+use crate::set::{to_words, Rewrite, Set};
 use crate::transfer::Transfer;
 
 pub const START: u32 = 1;
@@ -160,17 +160,13 @@ impl Reader {
 
     fn entry(&mut self, place: usize, record: &[u32]) -> Result<(), Refusal> {
         let transfer = Transfer::numbered(record[1] >> 28).ok_or(Refusal::new(3, place))?;
-        let rewrite = set_of(&record[10..18]);
         let entry = Entry {
             priority: (record[0] >> 12) as u16,
             in_port: low_port(record[0]),
             out_port: low_port(record[1]),
             matching: set_of(&record[2..10]),
             transfer,
-            rewrite: Rewrite {
-                mask: rewrite.care,
-                value: rewrite.value,
-            },
+            rewrite: Rewrite::to(set_of(&record[10..18])),
         };
         let entries = &mut self.fabric.entries;
         let entries_here = &mut self.entries_at[usize::from(entry.in_port)];
@@ -194,10 +190,10 @@ fn low_port(word: u32) -> u16 {
 
 /// Eight words as a set: care, then value.
 fn set_of(words: &[u32]) -> Set {
-    Set {
-        care: from_words([words[0], words[1], words[2], words[3]]),
-        value: from_words([words[4], words[5], words[6], words[7]]),
-    }
+    Set::of_words(
+        [words[0], words[1], words[2], words[3]],
+        [words[4], words[5], words[6], words[7]],
+    )
 }
 
 fn edge_record(edge: &Edge) -> Vec<u32> {

@@ -29,6 +29,14 @@ pub struct Set {
 impl Set {
     pub const ALL_WILD: Set = Set { care: 0, value: 0 };
 
+    /// From care and value as words.
+    pub fn of_words(care: [u32; 4], value: [u32; 4]) -> Set {
+        Set {
+            care: from_words(care),
+            value: from_words(value),
+        }
+    }
+
     /// The set with this header alone.
     pub fn only(header: Header) -> Set {
         Set {
@@ -146,6 +154,14 @@ pub struct Rewrite {
 
 impl Rewrite {
     pub const NONE: Rewrite = Rewrite { mask: 0, value: 0 };
+
+    /// The rewrite to what this set's headers have in common.
+    pub fn to(set: Set) -> Rewrite {
+        Rewrite {
+            mask: set.care,
+            value: set.value,
+        }
+    }
 
     /// Whether the value bits outside the mask are 0.
     pub fn is_proper(&self) -> bool {

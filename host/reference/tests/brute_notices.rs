@@ -2,9 +2,7 @@
 
 mod common;
 
-use std::cell::Cell;
-
-use common::answer;
+use common::{answer, Seen};
 use reference::brute::{
     arrivals, check_list, check_run, check_verdict, ends, Ends, BUDGET, MOST_WAYS,
 };
@@ -39,22 +37,6 @@ fn flipped(words: &[u32], word: usize, rng: &mut Rng) -> Vec<u32> {
     let mut flipped = words.to_vec();
     flipped[word] ^= 1 << rng.below(32);
     flipped
-}
-
-/// Counts how often something was seen.
-#[derive(Default)]
-struct Seen(Cell<u32>);
-
-impl Seen {
-    fn count(&self, happened: bool) {
-        self.0.set(self.0.get() + u32::from(happened));
-    }
-
-    /// Fails if it was seen too little, unless a single seed was asked for.
-    fn at_least(&self, floor: u32) {
-        let seen = self.0.get();
-        assert!(seen >= floor || std::env::var("SEED").is_ok(), "{seen}");
-    }
 }
 
 #[test]

@@ -2,8 +2,7 @@
 
 mod common;
 
-use common::{answer, filled, Call};
-use reference::calls::Answer;
+use common::{answer, asked, filled, run_of};
 use reference::examples::{
     alike, equals_behind_a_link, equals_below, leak_by_choice, ring_of_equals, run_query,
     wild_query,
@@ -11,17 +10,7 @@ use reference::examples::{
 use reference::file::write;
 use reference::query::{input, print, RUN};
 use reference::ways::{Packet, DROPPED, LEFT, TRAVELLING};
-use reference::{list, run, verdict, Fabric, Header};
-
-/// A verdict or list of target 2, all wild.
-fn asked(call: Call, fabric: &Fabric, limit: u32, budget: u32) -> Answer {
-    answer(call, &write(fabric), 4000, &wild_query(2, limit, budget))
-}
-
-/// A run from port 1.
-fn run_of(fabric: &Fabric, limit: u32, header: [u32; 4]) -> Vec<u32> {
-    answer(run, &write(fabric), 96, &run_query(1, limit, header)).unwrap()
-}
+use reference::{list, verdict, Fabric, Header};
 
 /// Each end's fate and entries, from port 1.
 fn ends_of(fabric: &Fabric, limit: u32, header: Header) -> Vec<(u32, Vec<u32>)> {

@@ -2,9 +2,7 @@
 
 mod common;
 
-use std::cell::Cell;
-
-use common::{answer, filled};
+use common::{answer, filled, Seen};
 use reference::examples::{edge, entry, fabric, link, run_query, to_tp_dst, tp_dst};
 use reference::file::write;
 use reference::random::{any, cases, packet};
@@ -152,7 +150,7 @@ fn sixteen_hops_round_a_ring() {
 /// where these are few enough to be looked at.
 #[test]
 fn runs_agree_with_naive_forwarding() {
-    let tied = Cell::new(0);
+    let tied = Seen::default();
     cases(10_000, 2000, |rng| {
         let fabric = any(rng);
         let file = write(&fabric);
@@ -167,8 +165,8 @@ fn runs_agree_with_naive_forwarding() {
             if let Some(ends) = packet.ends(1000) {
                 assert_eq!(packet.run_by(&ends), Some(naive));
             }
-            tied.set(tied.get() + u32::from(words[0] == TIED));
+            tied.count(words[0] == TIED);
         }
     });
-    assert!(tied.get() > 2000 || std::env::var("SEED").is_ok());
+    tied.at_least(2000);
 }

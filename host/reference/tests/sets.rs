@@ -1,11 +1,21 @@
-//! Header sets against what they mean, header by header.
+//! Header sets, and what entries do to them, against what they mean, header by
+//! header.
 
+mod common;
+
+use common::Seen;
+use reference::examples::entry;
 use reference::random::{cases, Rng};
 use reference::set::{from_words, to_words};
-use reference::{Header, Rewrite, Set};
+use reference::ternary;
+use reference::{Entry, Header, Rewrite, Set, Transfer};
 
-/// Bits from all four words, first and last among them.
-const BITS: [u32; 7] = [127, 96, 70, 64, 33, 9, 0];
+/// Bits from all four words, first and last among them; of the addresses the
+/// same ones.
+const BITS: [u32; 7] = [127, 96, 95, 64, 33, 9, 0];
+/// Two bits of each address.
+const ADDRESS_BITS: [u32; 4] = [127, 96, 95, 64];
+const TRANSFERS: [Transfer; 3] = [Transfer::None, Transfer::Copy, Transfer::Swap];
 
 fn few_bits(rng: &mut Rng) -> u128 {
     let chosen = rng.below(1 << BITS.len());
@@ -55,19 +65,132 @@ fn intersection_is_what_both_contain() {
     });
 }
 
+/// An entry that does this.
+fn doing(transfer: Transfer, written: Set) -> Entry {
+    Entry {
+        transfer,
+        rewrite: Rewrite::to(written),
+        ..entry(1, 1, 2)
+    }
+}
+
+/// What is undone has the headers that the entry brings there and no others; it
+/// is empty if there are none. Gives whether it is.
+fn check_undo(entry: &Entry, wanted: &Set, headers: &[Header]) -> bool {
+    let undone = entry.undo(wanted);
+    let there = |header: &Header| wanted.contains(entry.apply(*header));
+    for header in headers {
+        let undone = undone.is_some_and(|set| set.contains(*header));
+        assert_eq!(there(header), undone, "{header:x}: {entry:x?}, {wanted:x?}");
+    }
+    assert!(undone.is_none_or(|set| set.is_proper()));
+    assert_eq!(undone.is_none(), !headers.iter().any(there));
+    undone.is_none()
+}
+
 #[test]
-fn undo_is_what_the_rewrite_brings_there() {
-    cases(2000, 2000, |rng| {
-        let wanted = small_set(rng);
-        let Set { care: mask, value } = small_set(rng);
-        let rewrite = Rewrite { mask, value };
-        let undone = rewrite.undo(&wanted);
-        for header in headers() {
-            let there = wanted.contains(rewrite.apply(header));
-            assert_eq!(there, undone.is_some_and(|set| set.contains(header)));
+fn undo_is_what_the_entry_brings_there() {
+    let headers = headers();
+    for transfer in TRANSFERS {
+        cases(2000, 3000, |rng| {
+            let (wanted, written) = (small_set(rng), small_set(rng));
+            check_undo(&doing(transfer, written), &wanted, &headers);
+        });
+    }
+}
+
+/// All sets that care for some of these bits.
+fn all_sets(bits: &[u32]) -> Vec<Set> {
+    bits.iter().fold(vec![Set::ALL_WILD], |sets, bit| {
+        let with = |value: u128| {
+            let bit = Set {
+                care: 1 << bit,
+                value: value << bit,
+            };
+            sets.iter().filter_map(move |set| set.intersect(&bit))
+        };
+        sets.iter().copied().chain(with(0)).chain(with(1)).collect()
+    })
+}
+
+/// Each rewrite after each transfer, undone for each set. A bit is not written, or
+/// 0 or 1 is; and it may be anything, or 0 or 1 is wanted: 7 of these 9 cases can
+/// be met, all but one written and the other wanted. Under a copy, of the 49 cases
+/// of a bit of nw_src and the same of nw_dst, 2 can't: neither is written, and one
+/// is wanted to be 0, the other 1.
+#[test]
+fn undo_over_four_bits() {
+    let headers = reference::brute::headers(&ADDRESS_BITS);
+    let sets = all_sets(&ADDRESS_BITS);
+    for (transfer, met) in TRANSFERS.into_iter().zip([7 * 7, 7 * 7 - 2, 7 * 7]) {
+        let mut empty = 0;
+        for written in &sets {
+            let doing = doing(transfer, *written);
+            let is_empty = |wanted: &&Set| check_undo(&doing, wanted, &headers);
+            empty += sets.iter().filter(is_empty).count();
         }
-        assert!(undone.is_none_or(|set| set.is_proper()));
+        assert_eq!(empty, 81 * 81 - met * met, "{transfer:?}");
+    }
+}
+
+/// Over all 128 bits: for a header of what is undone or one that differs in some;
+/// and the strings of 0, 1 and x have it the same.
+#[test]
+fn undo_over_all_bits() {
+    let [inside, outside, empty]: [Seen; 3] = Default::default();
+    cases(2500, 6000, |rng| {
+        let doing = doing(rng.one_of(TRANSFERS), wide_set(rng));
+        let mut wanted = wide_set(rng);
+        if !rng.once_in(4) {
+            // What a header becomes is wanted, so that there is one.
+            wanted.value = doing.apply(rng.bits()) & wanted.care;
+        }
+        let undone = doing.undo(&wanted);
+        let by_strings = ternary::undo(&doing, &ternary::from_set(&wanted));
+        assert_eq!(by_strings, undone.map(|set| ternary::from_set(&set)));
+        empty.count(undone.is_none());
+        let Some(set) = undone else {
+            return;
+        };
+        let few = rng.bits() & rng.bits() & rng.bits();
+        let header = (set.value | rng.bits() & !set.care) ^ rng.one_of([0, few]);
+        let there = wanted.contains(doing.apply(header));
+        assert_eq!(there, set.contains(header));
+        inside.count(there);
+        outside.count(!there);
     });
+    for seen in [inside, outside, empty] {
+        seen.at_least(500);
+    }
+}
+
+/// "1 to copy nw_src over nw_dst or 2 to swap them, before the rewrite."
+#[test]
+fn addresses_are_moved_before_the_rewrite() {
+    let header = from_words([0x0a000001, 0x0b000002, 3, 4]);
+    let becomes = |transfer, written| to_words(doing(transfer, written).apply(header));
+    let last_bytes = Set::of_words([0xff, 0xffff, 0, 0xff], [7, 0x0808, 0, 9]);
+    for (transfer, moved, written) in [
+        (
+            Transfer::None,
+            [0x0a000001, 0x0b000002],
+            [0x0a000007, 0x0b000808],
+        ),
+        (
+            Transfer::Copy,
+            [0x0a000001, 0x0a000001],
+            [0x0a000007, 0x0a000808],
+        ),
+        (
+            Transfer::Swap,
+            [0x0b000002, 0x0a000001],
+            [0x0b000007, 0x0a000808],
+        ),
+    ] {
+        let ([src, dst], [new_src, new_dst]) = (moved, written);
+        assert_eq!(becomes(transfer, Set::ALL_WILD), [src, dst, 3, 4]);
+        assert_eq!(becomes(transfer, last_bytes), [new_src, new_dst, 3, 9]);
+    }
 }
 
 #[test]

@@ -10,7 +10,7 @@ pub use deep_ring::deep_ring;
 use crate::calls::Query;
 use crate::examples::{edge, entry, fabric, wild_query};
 use crate::fabric::{Entry, Fabric};
-use crate::set::{from_words, Rewrite, Set};
+use crate::set::{Rewrite, Set};
 
 /// A fabric and what to ask of it.
 #[derive(Clone, Debug)]
@@ -32,18 +32,8 @@ impl Benchmark {
     }
 }
 
-fn set(care: [u32; 4], value: [u32; 4]) -> Set {
-    Set {
-        care: from_words(care),
-        value: from_words(value),
-    }
-}
-
 fn rewrite(mask: [u32; 4], value: [u32; 4]) -> Rewrite {
-    Rewrite {
-        mask: from_words(mask),
-        value: from_words(value),
-    }
+    Rewrite::to(Set::of_words(mask, value))
 }
 
 fn deny(priority: u16, in_port: u16, matching: Set) -> Entry {

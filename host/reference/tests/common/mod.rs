@@ -2,8 +2,12 @@
 
 #![allow(dead_code)]
 
+use std::cell::Cell;
+
 use reference::calls::{read_answer, Answer, ANSWER_WORDS};
-use reference::Query;
+use reference::examples::{run_query, wild_query};
+use reference::file::write;
+use reference::{run, Fabric, Query};
 
 /// One of the three calls.
 pub type Call = fn(&[u8], &mut [u8], &Query) -> u64;
@@ -20,9 +24,35 @@ pub fn answer(call: Call, file: &[u8], lent: usize, query: &Query) -> Answer {
     answer
 }
 
+/// A verdict or list of target 2, all wild.
+pub fn asked(call: Call, fabric: &Fabric, limit: u32, budget: u32) -> Answer {
+    answer(call, &write(fabric), 4000, &wild_query(2, limit, budget))
+}
+
+/// A run from port 1.
+pub fn run_of(fabric: &Fabric, limit: u32, header: [u32; 4]) -> Vec<u32> {
+    answer(run, &write(fabric), 96, &run_query(1, limit, header)).unwrap()
+}
+
 /// A verdict's or a run's words: these, and zeros.
 pub fn filled(words: &[u32]) -> Vec<u32> {
     let mut words = words.to_vec();
     words.resize(ANSWER_WORDS, 0);
     words
+}
+
+/// Counts how often something was seen.
+#[derive(Default)]
+pub struct Seen(Cell<u32>);
+
+impl Seen {
+    pub fn count(&self, happened: bool) {
+        self.0.set(self.0.get() + u32::from(happened));
+    }
+
+    /// Fails if it was seen too little, unless a single seed was asked for.
+    pub fn at_least(&self, floor: u32) {
+        let seen = self.0.get();
+        assert!(seen >= floor || std::env::var("SEED").is_ok(), "{seen}");
+    }
 }

@@ -1,8 +1,9 @@
 //! A routed campus.
 
-use super::{deny, rewrite, set, Benchmark};
+use super::{deny, rewrite, Benchmark};
 use crate::examples::entry;
 use crate::fabric::{Edge, Entry, Fabric, Link};
+use crate::set::Set;
 
 const BUILDINGS: u16 = 6;
 const TENANTS: u16 = 8;
@@ -53,16 +54,16 @@ fn add_tenant(fabric: &mut Fabric, building: u16, tenant: u16) {
     fabric.edges.push(Edge {
         group: tenant,
         port,
-        admitted: set([0xffff_ff00, 0, 0, 0], [own, 0, 0, 0]),
+        admitted: Set::of_words([0xffff_ff00, 0, 0, 0], [own, 0, 0, 0]),
     });
     for service in [23, 445] {
-        let matching = set([0, 0, 0xffff, 0xff], [0, 0, service, 6]);
+        let matching = Set::of_words([0, 0, 0xffff, 0xff], [0, 0, service, 6]);
         fabric.entries.push(deny(30, port, matching));
     }
     for other in (0..BUILDINGS).filter(|&other| other != building) {
         let to = network(other, tenant);
         fabric.entries.push(Entry {
-            matching: set([0xffff_ff00, 0xffff_ff00, 0, 0], [own, to, 0, 0]),
+            matching: Set::of_words([0xffff_ff00, 0xffff_ff00, 0, 0], [own, to, 0, 0]),
             rewrite: rewrite([0, 0, 0, 0xffff_0000], [0, 0, 0, tag(tenant)]),
             ..entry(20, port, uplink_port(building, other % CORES))
         });
@@ -79,7 +80,7 @@ fn add_uplink(fabric: &mut Fabric, building: u16, core: u16) {
         let to = network(building, tenant);
         let care = [0, 0xffff_ff00, 0, 0xffff_0000];
         fabric.entries.push(Entry {
-            matching: set(care, [0, to, 0, tag(tenant)]),
+            matching: Set::of_words(care, [0, to, 0, tag(tenant)]),
             rewrite: rewrite([0, 0, 0, 0xffff_0000], [0; 4]),
             ..entry(24, up, tenant_port(building, tenant))
         });
@@ -89,11 +90,11 @@ fn add_uplink(fabric: &mut Fabric, building: u16, core: u16) {
 fn add_core_routes(fabric: &mut Fabric, building: u16, core: u16) {
     let in_port = core_port(building, core);
     let host = network(2, 0) | 77;
-    let matching = set([u32::MAX, 0, 0, 0], [host, 0, 0, 0]);
+    let matching = Set::of_words([u32::MAX, 0, 0, 0], [host, 0, 0, 0]);
     fabric.entries.push(deny(32, in_port, matching));
     for other in (0..BUILDINGS).filter(|&other| other != building) {
         fabric.entries.push(Entry {
-            matching: set([0, 0xffff_0000, 0, 0], [0, network(other, 0), 0, 0]),
+            matching: Set::of_words([0, 0xffff_0000, 0, 0], [0, network(other, 0), 0, 0]),
             ..entry(16, in_port, core_port(other, core))
         });
     }

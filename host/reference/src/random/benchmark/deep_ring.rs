@@ -1,6 +1,6 @@
 //! The deep ring.
 
-use super::{deny, one_group, rewrite, set, Benchmark};
+use super::{deny, one_group, rewrite, Benchmark};
 use crate::examples::entry;
 use crate::fabric::{Entry, Fabric, Link, MOST_ENTRIES_PER_IN_PORT};
 use crate::set::Set;
@@ -70,7 +70,7 @@ fn allow(priority: u16, in_port: u16, out_port: u16, matching: Set, lap: Option<
 }
 
 fn in_lap(lap: u32) -> Set {
-    set([0, 0, 0, 0xffff_0000], [0, 0, 0, lap << 16])
+    Set::of_words([0, 0, 0, 0xffff_0000], [0, 0, 0, lap << 16])
 }
 
 /// Denies until the in-port has 64 entries: one on this switch's two bits of
@@ -82,7 +82,7 @@ fn add_denies(fabric: &mut Fabric, in_port: u16, switch: u16) {
         .filter(|entry| entry.in_port == in_port);
     let allows = here.count();
     let pair = 0b11 << (16 + 2 * switch);
-    let doubling = set([0, 0, pair, 0], [0, 0, pair, 0]);
+    let doubling = Set::of_words([0, 0, pair, 0], [0, 0, pair, 0]);
     fabric.entries.push(deny(3, in_port, doubling));
     for bit in allows + 1..MOST_ENTRIES_PER_IN_PORT {
         let address_bit = 1 << (64 + bit);
