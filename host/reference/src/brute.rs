@@ -7,6 +7,7 @@
 //! It is for fabrics and queries that care for and rewrite only these bits;
 //! on all others headers are then alike.
 
+mod facts;
 mod many;
 mod tally;
 
@@ -136,10 +137,10 @@ pub fn finds(words: &[u32]) -> Option<Vec<Find>> {
         finds.push(kinds_right.then_some(Find {
             port: (first & 0xfff) as u16,
             entries: entries.iter().map(|word| word & 0x0fff_ffff).collect(),
-            set: Set {
-                care: from_words([set[0], set[1], set[2], set[3]]),
-                value: from_words([set[4], set[5], set[6], set[7]]),
-            },
+            set: Set::of_words(
+                [set[0], set[1], set[2], set[3]],
+                [set[4], set[5], set[6], set[7]],
+            ),
         })?);
         rest = after;
     }

@@ -11,6 +11,7 @@ mod queries;
 mod ring;
 mod small;
 mod switches;
+mod transfers;
 
 pub use benchmark::{campus, deep_ring, twenty_denies, Benchmark};
 pub use damage::{damage, inflict, Damage, Damaged};
@@ -97,6 +98,12 @@ pub fn cases(first: u64, number: u64, case: impl Fn(&mut Rng)) {
         let _announce = Announce(seed);
         case(&mut Rng::new(seed));
     }
+}
+
+/// What every fabric gets in the end: copies and swaps, then ties.
+fn finish(rng: &mut Rng, fabric: &mut Fabric) {
+    transfers::scatter(rng, fabric);
+    equals::settle(rng, fabric);
 }
 
 /// A fabric from any of the generators.

@@ -245,6 +245,16 @@ fn joined(one: u8, other: u8) -> Option<u8> {
     }
 }
 
+/// If undoing this entry joins two wanted bits into one, whether they agree, and
+/// all others that it joins.
+pub fn joins_agree(entry: &Entry, wanted: &Ternary) -> Option<bool> {
+    let wanted = undo_rewrite(entry, wanted)?;
+    let of_both = wanted[..32].iter().zip(&wanted[32..64]);
+    let mut joined = of_both.filter(|(&src, &dst)| src != b'x' && dst != b'x');
+    let joins = entry.transfer == Transfer::Copy && joined.clone().count() > 0;
+    joins.then(|| joined.all(|(src, dst)| src == dst))
+}
+
 fn carved(part: &Ternary, by: &Ternary) -> Vec<Ternary> {
     if apart(part, by) {
         return vec![*part];

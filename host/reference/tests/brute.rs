@@ -23,23 +23,27 @@ fn tiny_fabrics() {
 fn small_fabrics() {
     let tally = CHECKED.on_many(300_000, 4000, small);
     tally.has(10, &Fact::OF_TIES);
+    tally.has(20, &Fact::OF_TRANSFERS);
 }
 
 #[test]
 fn fabrics_of_ties() {
     let tally = CHECKED.on_many(400_000, 5000, ties);
     tally.has(40, &Fact::OF_TIES);
+    tally.has(50, &Fact::OF_TRANSFERS);
 }
 
 #[test]
 fn fabrics_with_dead_ends() {
     let tally = CHECKED.on_many(500_000, 2500, dead_ends);
     tally.has(10, &Fact::OF_TIES);
+    tally.has(20, &Fact::OF_TRANSFERS);
 }
 
 #[test]
 fn small_rings() {
     let tally = CHECKED.on_many(550_000, 3000, small_ring);
     tally.has(50, &Fact::OF_TIES);
+    tally.has(100, &Fact::OF_TRANSFERS);
     tally.has(1000, &[Fact::FoundFar]);
 }

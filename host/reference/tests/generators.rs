@@ -9,10 +9,10 @@ use reference::file::{read, write};
 use reference::index::Index;
 use reference::random::{
     any, beater_chain, campus, cases, dead_ends, deep_ring, largest, ring, small, small_ring,
-    switches, ties, tiny, twenty_denies, wild_under_denies, Benchmark, Rng,
+    switches, ties, tiny, twenty_denies, wild_under_denies, Benchmark, Rng, Small,
 };
 use reference::trace::trace;
-use reference::{list, verdict, Entry, Fabric, Query, Set};
+use reference::{list, verdict, Entry, Fabric, Query, Set, Transfer};
 
 type Make = fn(&mut Rng) -> Fabric;
 
@@ -80,29 +80,81 @@ fn has_equals(fabric: &Fabric) -> bool {
     })
 }
 
+const GENERATORS: [(&str, Make); 10] = [
+    ("tiny", |rng| tiny(rng).fabric),
+    ("small", |rng| small(rng).fabric),
+    ("ties", |rng| ties(rng).fabric),
+    ("dead ends", |rng| dead_ends(rng).fabric),
+    ("small ring", |rng| small_ring(rng).fabric),
+    ("switches", switches),
+    ("ring", ring),
+    ("beater chain", beater_chain),
+    ("wild under denies", wild_under_denies),
+    ("largest", largest),
+];
+
+/// How many of 300 fabrics are such.
+fn count(make: Make, is_such: fn(&Fabric) -> bool) -> usize {
+    let fabrics = (0..300).map(|seed| make(&mut Rng::new(seed)));
+    fabrics.filter(is_such).count()
+}
+
 /// Each generator makes many fabrics with equals and many without.
 #[test]
 fn equals_and_none() {
-    let generators: [(&str, Make); 10] = [
-        ("tiny", |rng| tiny(rng).fabric),
-        ("small", |rng| small(rng).fabric),
-        ("ties", |rng| ties(rng).fabric),
-        ("dead ends", |rng| dead_ends(rng).fabric),
-        ("small ring", |rng| small_ring(rng).fabric),
-        ("switches", switches),
-        ("ring", ring),
-        ("beater chain", beater_chain),
-        ("wild under denies", wild_under_denies),
-        ("largest", largest),
-    ];
-    for (name, make) in generators {
-        let fabrics = (0..300).map(|seed| make(&mut Rng::new(seed)));
-        let with_equals = fabrics.filter(has_equals).count();
+    for (name, make) in GENERATORS {
+        let with_equals = count(make, has_equals);
         let expected = match name {
             "ties" => 225..=299,
             _ => 75..=225,
         };
         assert!(expected.contains(&with_equals), "{name}: {with_equals}");
+    }
+}
+
+fn has(fabric: &Fabric, transfer: Transfer) -> bool {
+    let mut entries = fabric.entries.iter();
+    entries.any(|entry| entry.transfer == transfer)
+}
+
+/// Each generator makes many fabrics whose entries copy and swap, and a third or
+/// more where none does either.
+#[test]
+fn transfers_and_none() {
+    for (name, make) in GENERATORS {
+        let both = count(make, |made| {
+            has(made, Transfer::Copy) && has(made, Transfer::Swap)
+        });
+        let none = count(make, |made| {
+            !has(made, Transfer::Copy) && !has(made, Transfer::Swap)
+        });
+        let few = if name == "tiny" { 20 } else { 75 };
+        assert!(
+            both >= few && (80..=225).contains(&none),
+            "{name}: {both}, {none}"
+        );
+    }
+}
+
+/// Copies and swaps move none of a small fabric's bits elsewhere.
+#[test]
+fn small_fabrics_have_the_same_bits_of_both_addresses() {
+    let makes: [fn(&mut Rng) -> Small; 5] = [tiny, small, ties, dead_ends, small_ring];
+    for make in makes {
+        cases(920_000, 200, |rng| {
+            let bits = make(rng).bits;
+            let of = |word: u32| {
+                let mut bits: Vec<u32> = bits
+                    .iter()
+                    .copied()
+                    .filter(|bit| bit / 32 == word)
+                    .collect();
+                bits.sort();
+                bits.into_iter().map(|bit| bit % 32).collect::<Vec<_>>()
+            };
+            assert_eq!(of(3), of(2));
+            assert!(!of(3).is_empty());
+        });
     }
 }
 

@@ -2,7 +2,8 @@
 
 use std::collections::BTreeSet;
 
-use super::tally::{facts_of_arrivals, facts_of_runs, Fact, Tally};
+use super::facts::{facts_of_arrivals, facts_of_runs, facts_of_trace};
+use super::tally::{Fact, Tally};
 use super::{arrivals, check_list, check_run, check_verdict, ends, Arrivals, Ends};
 use crate::calls::{Answer, Query};
 use crate::examples::run_query;
@@ -40,6 +41,7 @@ impl Checked {
             }
         });
         tally.has(200, &[Fact::Found, Fact::Reached, Fact::NoTie]);
+        tally.has(500, &[Fact::NoTransfer]);
         tally.has(100, &[Fact::IsolatedWithFinds]);
         tally.has_less_than_once_in(20, Fact::Skipped);
         tally
@@ -78,7 +80,9 @@ impl Checked {
         check_list(&made.bits, &arrivals, &listed).unwrap();
         let judged = (self.verdict)(file, 96, query).unwrap();
         check_verdict(&made.fabric, &arrivals, query, &judged).unwrap();
-        facts_of_arrivals(ends, query)
+        let mut facts = facts_of_arrivals(ends, query);
+        facts.extend(facts_of_trace(&made.fabric, query));
+        facts
     }
 
     fn on_runs(self, file: &[u8], ends: &Ends) {

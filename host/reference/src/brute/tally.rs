@@ -2,12 +2,7 @@
 //! that it has looked at enough of it.
 
 use std::cell::RefCell;
-use std::collections::{BTreeMap, BTreeSet};
-
-use super::{foreign, Ends};
-use crate::calls::Query;
-use crate::fabric::Fabric;
-use crate::ways::{holds, takers, Packet, Way, TIED, TRAVELLING};
+use std::collections::BTreeMap;
 
 /// What can be in a fabric and what was asked of it.
 #[derive(Clone, Copy, Debug, PartialEq, Eq, PartialOrd, Ord)]
@@ -43,6 +38,23 @@ pub enum Fact {
     LeaksByChoice,
     /// Reached, and isolated if the earlier of equals always took the packet.
     LeaksByTheLater,
+    /// No entry copies or swaps.
+    NoTransfer,
+    /// Found by a copy. Here and below, one that changes the header.
+    FoundByACopy,
+    FoundByASwap,
+    /// Found by a swap whose rewrite writes to an address.
+    FoundByASwapRewritten,
+    /// Found by a copy or swap behind a link.
+    FoundByATransferFar,
+    /// A run that is dropped by an entry that copies or swaps.
+    DroppedByATransfer,
+    /// A run that is tied after a copy or swap.
+    TiedAfterATransfer,
+    /// In the trace a copy is undone that joins wanted bits, and they agree.
+    JoinsThatAgree,
+    /// They don't, so that it ends there.
+    JoinsThatDisagree,
 }
 
 impl Fact {
@@ -58,6 +70,18 @@ impl Fact {
         Fact::ArrivesByChoice,
         Fact::LeaksByChoice,
         Fact::LeaksByTheLater,
+    ];
+
+    /// Those that only copies and swaps bring about.
+    pub const OF_TRANSFERS: [Fact; 8] = [
+        Fact::FoundByACopy,
+        Fact::FoundByASwap,
+        Fact::FoundByASwapRewritten,
+        Fact::FoundByATransferFar,
+        Fact::DroppedByATransfer,
+        Fact::TiedAfterATransfer,
+        Fact::JoinsThatAgree,
+        Fact::JoinsThatDisagree,
     ];
 }
 
@@ -96,97 +120,4 @@ impl Tally {
         let few = self.of(fact) * times < self.of(Fact::Fabric);
         assert!(few || self.replayed(), "too much {fact:?}: {self:?}");
     }
-}
-
-fn when(happened: bool, fact: Fact) -> Option<Fact> {
-    happened.then_some(fact)
-}
-
-/// What is in the runs of these packets.
-pub(super) fn facts_of_runs(all: &Ends) -> BTreeSet<Fact> {
-    let mut facts = BTreeSet::new();
-    for (packet, ends) in all {
-        let Some(run) = packet.run_by(ends) else {
-            continue;
-        };
-        let takers = takers(packet.fabric, run.port, run.header);
-        if run.fate == Some(TIED) {
-            facts.extend(facts_of_tie(packet.fabric, &run, &takers));
-        }
-        let to_a_tie = run.fate == Some(TRAVELLING) && takers.len() > 1;
-        facts.extend(when(to_a_tie, Fact::TravellingToATie));
-        if !facts.contains(&Fact::PastEqualsBelow) {
-            let mut hops = 0..run.entries.len();
-            let past = hops.any(|hop| equals_below(packet, &run.entries[..=hop]));
-            facts.extend(when(past, Fact::PastEqualsBelow));
-        }
-    }
-    let no_tie = all.iter().all(|(_, ends)| ends.len() == 1);
-    facts.extend(when(no_tie, Fact::NoTie));
-    facts
-}
-
-fn facts_of_tie(fabric: &Fabric, run: &Way, takers: &[u32]) -> impl Iterator<Item = Fact> {
-    let entries = takers.iter().map(|&taker| &fabric.entries[taker as usize]);
-    let mut done = entries.map(|entry| (entry.out_port, entry.rewrite));
-    let first = done.next();
-    let place = match run.entries.is_empty() {
-        true => Fact::TiedAtTheStart,
-        false => Fact::TiedBehindALink,
-    };
-    let by_three = when(takers.len() >= 3, Fact::TiedByThree);
-    let by_alike = when(done.all(|other| Some(other) == first), Fact::TiedByAlike);
-    [Some(place), by_three, by_alike].into_iter().flatten()
-}
-
-/// What is in the arrivals of these packets.
-pub(super) fn facts_of_arrivals(all: &Ends, query: &Query) -> BTreeSet<Fact> {
-    let mut facts = BTreeSet::new();
-    let mut leaks_by_the_earlier = false;
-    for (packet, ends) in all {
-        let arriving = || ends.iter().filter(|way| way.arrives(query));
-        let number = arriving().count();
-        if number == 0 {
-            continue;
-        }
-        let leaks = foreign(packet.fabric, (packet.start, packet.header), query.port);
-        leaks_by_the_earlier |= leaks && ends[0].arrives(query);
-        let by_choice = number < ends.len();
-        let far = arriving().any(|way| way.entries.len() >= 3);
-        facts.insert(Fact::Found);
-        facts.extend(when(far, Fact::FoundFar));
-        facts.extend(when(number > 1, Fact::FoundTwice));
-        facts.extend(when(leaks, Fact::Reached));
-        facts.extend(when(by_choice, Fact::ArrivesByChoice));
-        facts.extend(when(by_choice && leaks, Fact::LeaksByChoice));
-    }
-    let reached = facts.contains(&Fact::Reached);
-    let isolated_with_finds = facts.contains(&Fact::Found) && !reached;
-    facts.extend(when(isolated_with_finds, Fact::IsolatedWithFinds));
-    facts.extend(when(
-        reached && !leaks_by_the_earlier,
-        Fact::LeaksByTheLater,
-    ));
-    facts
-}
-
-/// Whether two equals match below the last of these entries, where it takes
-/// the packet.
-fn equals_below(packet: &Packet, entries: &[u32]) -> bool {
-    let Some((&taker, before)) = entries.split_last() else {
-        return false;
-    };
-    let Some(way) = packet.follow(before) else {
-        return false;
-    };
-    let all = &packet.fabric.entries;
-    let taker = &all[taker as usize];
-    let mut below: Vec<u16> = all
-        .iter()
-        .filter(|entry| entry.in_port == way.port && holds(&entry.matching, way.header))
-        .map(|entry| entry.priority)
-        .filter(|&priority| priority < taker.priority)
-        .collect();
-    below.sort();
-    below.windows(2).any(|two| two[0] == two[1])
 }

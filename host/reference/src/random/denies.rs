@@ -1,9 +1,8 @@
 //! One allow under many denies.
 
-use super::equals::settle;
 use super::parts::{mask_of, proper, some_ports, spread_bits, tidy};
 use super::small::random_edge;
-use super::Rng;
+use super::{finish, Rng};
 use crate::examples::entry;
 use crate::fabric::{Entry, Fabric, MOST_ENTRIES_PER_IN_PORT};
 use crate::set::Set;
@@ -34,7 +33,7 @@ pub fn beater_chain(rng: &mut Rng) -> Fabric {
     }
     fabric.entries.push(entry(0, start, target));
     rng.shuffle(&mut fabric.entries);
-    settle(rng, &mut fabric);
+    finish(rng, &mut fabric);
     fabric
 }
 
@@ -55,7 +54,7 @@ pub fn wild_under_denies(rng: &mut Rng) -> Fabric {
     }
     fabric.entries.push(entry(0, start, target));
     rng.shuffle(&mut fabric.entries);
-    settle(rng, &mut fabric);
+    finish(rng, &mut fabric);
     fabric
 }
 

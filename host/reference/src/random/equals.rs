@@ -1,8 +1,8 @@
 //! Equal priorities on purpose, or none at all.
 
 use super::Rng;
+use crate::examples::entry;
 use crate::fabric::{Entry, Fabric, MOST_ENTRIES, MOST_ENTRIES_PER_IN_PORT};
-use crate::set::{Rewrite, Set};
 
 /// In a third of the fabrics some entries get an equal, in a third none has
 /// one, and a third stays as it came.
@@ -52,18 +52,16 @@ fn tie(rng: &mut Rng, fabric: &mut Fabric) {
 /// Matches the same or more, and does the same, or as another entry does.
 fn equal_of(rng: &mut Rng, model: Entry, other: Entry) -> Entry {
     let kept = rng.bits() | rng.one_of([0, !0]);
-    let out_port = rng.one_of([model.out_port, other.out_port, other.out_port, 0]);
+    let mut out_port = rng.one_of([model.out_port, other.out_port, other.out_port, 0]);
+    if out_port == model.in_port {
+        out_port = 0;
+    }
+    let plain = entry(model.priority, model.in_port, out_port);
+    let does = rng.one_of([model, other, plain]);
     Entry {
-        out_port: if out_port == model.in_port {
-            0
-        } else {
-            out_port
-        },
-        matching: Set {
-            care: model.matching.care & kept,
-            value: model.matching.value & kept,
-        },
-        rewrite: rng.one_of([model.rewrite, other.rewrite, Rewrite::NONE]),
-        ..model
+        matching: model.matching.map(|bits| bits & kept),
+        transfer: does.transfer,
+        rewrite: does.rewrite,
+        ..plain
     }
 }

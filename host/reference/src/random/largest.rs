@@ -1,8 +1,7 @@
 //! The largest file.
 
-use super::equals::settle;
 use super::parts::{address, field_rewrite, in_port, out_port, prefix_of, some_ports, tidy};
-use super::Rng;
+use super::{finish, Rng};
 use crate::examples::entry;
 use crate::fabric::{
     Edge, Entry, Fabric, Link, MOST_EDGES, MOST_ENTRIES, MOST_ENTRIES_PER_IN_PORT, MOST_LINKS,
@@ -46,6 +45,6 @@ pub fn largest(rng: &mut Rng) -> Fabric {
             ..entry(priority, in_port, out_port)
         });
     }
-    settle(rng, &mut fabric);
+    finish(rng, &mut fabric);
     fabric
 }

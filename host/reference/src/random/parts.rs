@@ -2,7 +2,7 @@
 
 use super::Rng;
 use crate::fabric::{Fabric, PORTS};
-use crate::set::{from_words, Rewrite, Set};
+use crate::set::{Rewrite, Set};
 
 /// Edges and links in rising order, as question 4 wants them.
 pub(super) fn tidy(fabric: &mut Fabric) {
@@ -55,13 +55,21 @@ pub(super) fn out_port(rng: &mut Rng, fabric: &Fabric, ports: &[u16], in_port: u
     }
 }
 
-/// Different bits, spread over the four words.
+/// Different bits, 3 to 64: some of nw_src with the same ones of nw_dst, and
+/// others of the last two words.
 pub(super) fn spread_bits(rng: &mut Rng, number: usize) -> Vec<u32> {
+    let addresses = 2 * rng.between(1, number / 2);
     let mut bits: Vec<u32> = Vec::new();
-    while bits.len() < number.min(128) {
-        let bit = (bits.len() % 4 * 32 + rng.below(32)) as u32;
-        if !bits.contains(&bit) {
-            bits.push(bit);
+    while bits.len() < number {
+        let place = rng.below(32) as u32;
+        let of_src = [96 + place, 64 + place];
+        let of_a_last_word = [bits.len() as u32 % 2 * 32 + place];
+        let new = match bits.len() < addresses {
+            true => &of_src[..],
+            false => &of_a_last_word,
+        };
+        if !bits.contains(&new[0]) {
+            bits.extend(new);
         }
     }
     bits
@@ -94,11 +102,7 @@ pub(super) fn rewrite_over(rng: &mut Rng, bits: &[u32], most: usize) -> Rewrite 
     if !rng.once_in(3) {
         return Rewrite::NONE;
     }
-    let written = set_over(rng, bits, most);
-    Rewrite {
-        mask: written.care,
-        value: written.value,
-    }
+    Rewrite::to(set_over(rng, bits, most))
 }
 
 /// 10.switch.place.0
@@ -112,23 +116,20 @@ pub(super) fn prefix_of(word: usize, address: u32, length: u32) -> Set {
     let (mut care, mut value) = ([0; 4], [0; 4]);
     care[word] = mask;
     value[word] = address & mask;
-    Set {
-        care: from_words(care),
-        value: from_words(value),
-    }
+    Set::of_words(care, value)
 }
 
-/// Mostly none; else dl_vlan, tp_dst or nw_tos.
+/// Mostly none; else dl_vlan, tp_dst, nw_tos or an address.
 pub(super) fn field_rewrite(rng: &mut Rng) -> Rewrite {
     let number = rng.between(1, 3) as u32;
-    let (mask, value) = match rng.below(9) {
+    let address = address(number as usize, 0);
+    let (care, value) = match rng.below(12) {
         0 => ([0, 0, 0, 0xffff_0000], [0, 0, 0, number << 16]),
         1 => ([0, 0, 0xffff, 0], [0, 0, 79 + number, 0]),
         2 => ([0, 0, 0, 0xff00], [0, 0, 0, number << 8]),
+        3 => ([u32::MAX, 0, 0, 0], [address, 0, 0, 0]),
+        4 => ([0, u32::MAX, 0, 0], [0, address, 0, 0]),
         _ => ([0; 4], [0; 4]),
     };
-    Rewrite {
-        mask: from_words(mask),
-        value: from_words(value),
-    }
+    Rewrite::to(Set::of_words(care, value))
 }

@@ -1,10 +1,11 @@
 //! Random queries of a fabric.
 
-use super::parts::set_over;
+use super::parts::{set_over, spread_bits};
 use super::{Rng, Small};
 use crate::calls::Query;
 use crate::fabric::Fabric;
 use crate::set::{to_words, Set};
+use crate::transfer::Transfer;
 
 /// A verdict's or list's query, in range or not. The budget has mostly less
 /// than `most` units.
@@ -12,6 +13,10 @@ pub fn query(rng: &mut Rng, fabric: &Fabric, most: u32) -> Query {
     let asked = match rng.below(4) {
         0 => Set::ALL_WILD,
         1 => admitted(rng, fabric),
+        2 => {
+            let bits = spread_bits(rng, 6);
+            set_over(rng, &bits, 4)
+        }
         _ => {
             let bits: Vec<u32> = (0..128).collect();
             set_over(rng, &bits, 3)
@@ -65,7 +70,7 @@ fn target(rng: &mut Rng, fabric: &Fabric) -> u32 {
 }
 
 /// A run's query, in range or not: the header is close to what the fabric's
-/// matches hold.
+/// matches hold, some of them once the addresses are swapped.
 pub fn packet(rng: &mut Rng, fabric: &Fabric) -> Query {
     let mut header = if rng.once_in(3) { rng.bits() } else { 0 };
     for _ in 0..rng.between(0, 3) {
@@ -73,6 +78,7 @@ pub fn packet(rng: &mut Rng, fabric: &Fabric) -> Query {
             let set = entry.matching;
             header = header & !set.care | set.value;
         }
+        header = rng.one_of([Transfer::None, Transfer::Swap]).apply(header);
     }
     let mut care = [u32::MAX; 4];
     if rng.once_in(30) {

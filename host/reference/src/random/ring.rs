@@ -1,8 +1,7 @@
 //! Rings of switches.
 
-use super::equals::settle;
 use super::parts::{address, field_rewrite, prefix_of, some_ports, tidy};
-use super::Rng;
+use super::{finish, Rng};
 use crate::examples::entry;
 use crate::fabric::{Edge, Entry, Fabric, Link};
 use crate::set::Set;
@@ -48,6 +47,6 @@ pub fn ring(rng: &mut Rng) -> Fabric {
     }
     tidy(&mut fabric);
     rng.shuffle(&mut fabric.entries);
-    settle(rng, &mut fabric);
+    finish(rng, &mut fabric);
     fabric
 }

@@ -1,9 +1,10 @@
 //! Small fabrics, whose sets and rewrites are over a few bits, so that every
-//! header over these can be forwarded.
+//! header over these can be forwarded. With a bit of nw_src they have the same
+//! bit of nw_dst, so that copies and swaps stay among them.
 
-use super::equals::settle;
 use super::parts::{in_port, out_port, rewrite_over, set_over, some_ports, spread_bits, tidy};
-use super::Rng;
+use super::transfers::scatter;
+use super::{finish, Rng};
 use crate::examples::entry;
 use crate::fabric::{Edge, Entry, Fabric, Link};
 
@@ -26,7 +27,7 @@ pub fn tiny(rng: &mut Rng) -> Small {
         cared: 4,
         inward: 3,
     };
-    settled(rng, &shape)
+    finished(rng, &shape)
 }
 
 /// A few edges, links and entries over some bits.
@@ -41,7 +42,7 @@ pub fn small(rng: &mut Rng) -> Small {
         cared: 4,
         inward: 8,
     };
-    settled(rng, &shape)
+    finished(rng, &shape)
 }
 
 /// Equal priorities, and matches that meet: several entries may take a packet.
@@ -56,7 +57,9 @@ pub fn ties(rng: &mut Rng) -> Small {
         cared: 3,
         inward: 8,
     };
-    shaped(rng, &shape)
+    let mut made = shaped(rng, &shape);
+    scatter(rng, &mut made.fabric);
+    made
 }
 
 /// Many in-ports that are neither an edge nor a link's end.
@@ -71,7 +74,7 @@ pub fn dead_ends(rng: &mut Rng) -> Small {
         cared: 4,
         inward: 2,
     };
-    settled(rng, &shape)
+    finished(rng, &shape)
 }
 
 /// What `shaped` makes.
@@ -93,9 +96,9 @@ struct Shape {
 }
 
 /// Some with ties on purpose, some with none.
-fn settled(rng: &mut Rng, shape: &Shape) -> Small {
+fn finished(rng: &mut Rng, shape: &Shape) -> Small {
     let mut made = shaped(rng, shape);
-    settle(rng, &mut made.fabric);
+    finish(rng, &mut made.fabric);
     made
 }
 
@@ -152,7 +155,7 @@ pub fn small_ring(rng: &mut Rng) -> Small {
     }
     tidy(&mut fabric);
     rng.shuffle(&mut fabric.entries);
-    settle(rng, &mut fabric);
+    finish(rng, &mut fabric);
     Small { fabric, bits }
 }
 

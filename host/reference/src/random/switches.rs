@@ -1,11 +1,10 @@
 //! Switches with many ports and links between them.
 
-use super::equals::settle;
 use super::parts::{address, field_rewrite, prefix_of, some_ports, tidy};
-use super::Rng;
+use super::{finish, Rng};
 use crate::examples::entry;
 use crate::fabric::{Edge, Entry, Fabric, Link};
-use crate::set::{from_words, Set};
+use crate::set::Set;
 
 /// A few switches of many ports, linked both ways, edges at the rim, prefix
 /// routes and rewrites at every in-port.
@@ -30,7 +29,7 @@ pub fn switches(rng: &mut Rng) -> Fabric {
     }
     tidy(&mut fabric);
     rng.shuffle(&mut fabric.entries);
-    settle(rng, &mut fabric);
+    finish(rng, &mut fabric);
     fabric
 }
 
@@ -82,8 +81,9 @@ fn route(rng: &mut Rng, prefix: Set) -> Set {
         1 => ([0, 0, 0, 0xffff_0000], [0, 0, 0, rng.one_of([1, 2]) << 16]),
         _ => ([0; 4], [0; 4]),
     };
+    let only = Set::of_words(care, value);
     Set {
-        care: prefix.care | from_words(care),
-        value: prefix.value | from_words(value),
+        care: prefix.care | only.care,
+        value: prefix.value | only.value,
     }
 }
