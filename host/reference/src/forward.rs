@@ -1,7 +1,7 @@
 //! Forwarding a packet: document 01, "Forwarding", with document 02's equal
 //! priorities (2.3) and reply entries (2.5).
 
-use crate::fabric::Fabric;
+use crate::fabric::{Entry, Fabric};
 use crate::set::Header;
 
 /// "Now only a strictly higher priority beats", at the same in-port. Both are
@@ -56,6 +56,17 @@ pub struct Run {
 
 /// Runs a packet from a port for at most `limit` hops, 1 to 16.
 pub fn run(fabric: &Fabric, start: u16, header: Header, limit: usize) -> Run {
+    run_by(Entry::apply, fabric, start, header, limit)
+}
+
+/// The same where this is what an entry makes of a header, right or wrong.
+pub fn run_by(
+    apply: impl Fn(&Entry, Header) -> Header,
+    fabric: &Fabric,
+    start: u16,
+    header: Header,
+    limit: usize,
+) -> Run {
     let mut at = Run {
         fate: Fate::Travelling,
         port: start,
@@ -63,14 +74,14 @@ pub fn run(fabric: &Fabric, start: u16, header: Header, limit: usize) -> Run {
         entries: Vec::new(),
     };
     while at.fate == Fate::Travelling && at.entries.len() < limit {
-        hop(fabric, &mut at);
+        hop(&apply, fabric, &mut at);
     }
     at
 }
 
 /// The next hop of a packet that travels: "It rewrites, and one hop is made." A
 /// drop does all that too.
-fn hop(fabric: &Fabric, at: &mut Run) {
+fn hop(apply: impl Fn(&Entry, Header) -> Header, fabric: &Fabric, at: &mut Run) {
     let takers = takers(fabric, at.port, at.header);
     let [number] = takers[..] else {
         at.fate = match takers.is_empty() {
@@ -80,7 +91,7 @@ fn hop(fabric: &Fabric, at: &mut Run) {
         return;
     };
     let entry = &fabric.entries[number];
-    at.header = entry.apply(at.header);
+    at.header = apply(entry, at.header);
     at.entries.push(number);
     if entry.out_port == 0 {
         at.fate = Fate::Dropped;

@@ -237,7 +237,7 @@ pub fn undo_transfer(entry: &Entry, wanted: &Ternary) -> Option<Ternary> {
 }
 
 /// What is wanted of one bit that has to be both.
-fn joined(one: u8, other: u8) -> Option<u8> {
+pub fn joined(one: u8, other: u8) -> Option<u8> {
     match (one, other) {
         (b'x', wanted) | (wanted, b'x') => Some(wanted),
         (b'0', b'0') | (b'1', b'1') => Some(one),

@@ -2,35 +2,15 @@
 
 mod common;
 
-use common::{answer, Seen};
-use reference::brute::{
-    arrivals, check_list, check_run, check_verdict, ends, Ends, BUDGET, MOST_WAYS,
-};
+use common::{answer, on_cases, Seen};
+use reference::brute::{arrivals, check_list, check_run, check_verdict};
 use reference::examples::run_query;
 use reference::file::write;
 use reference::query::LENT_BYTES;
-use reference::random::{cases, small, small_query, ties, Rng, Small};
+use reference::random::Rng;
 use reference::set::{from_words, to_words};
 use reference::ways::Packet;
 use reference::{list, run, verdict, Fabric, Query};
-
-/// 400 cases, with ties and without.
-fn on_cases(first: u64, check: impl Fn(&Small, &Query, &Ends, &mut Rng)) {
-    cases(first, 400, |rng| {
-        let made = if rng.once_in(2) {
-            small(rng)
-        } else {
-            ties(rng)
-        };
-        let query = Query {
-            budget: BUDGET,
-            ..small_query(rng, &made)
-        };
-        if let Some(ends) = ends(&made.fabric, &made.bits, query.limit, MOST_WAYS) {
-            check(&made, &query, &ends, rng);
-        }
-    });
-}
 
 /// These words with a bit of one of them flipped.
 fn flipped(words: &[u32], word: usize, rng: &mut Rng) -> Vec<u32> {
@@ -42,7 +22,7 @@ fn flipped(words: &[u32], word: usize, rng: &mut Rng) -> Vec<u32> {
 #[test]
 fn wrong_lists() {
     let noticed = Seen::default();
-    on_cases(600_000, |made, query, ends, rng| {
+    on_cases((600_000, 400), |made, query, ends, rng| {
         let arrivals = arrivals(ends, query);
         let is_wrong = |words: &[u32]| check_list(&made.bits, &arrivals, words).is_err();
         let listed = answer(list, &write(&made.fabric), LENT_BYTES, query);
@@ -67,7 +47,7 @@ fn wrong_lists() {
 #[test]
 fn wrong_verdicts() {
     let (noticed, by_another) = (Seen::default(), Seen::default());
-    on_cases(610_000, |made, query, ends, rng| {
+    on_cases((610_000, 400), |made, query, ends, rng| {
         let arrivals = arrivals(ends, query);
         let Ok(words) = answer(verdict, &write(&made.fabric), 96, query) else {
             return;
@@ -122,7 +102,7 @@ fn arrives_so(fabric: &Fabric, query: &Query, words: &[u32]) -> bool {
 #[test]
 fn wrong_runs() {
     let tied = Seen::default();
-    on_cases(620_000, |made, _, ends, rng| {
+    on_cases((620_000, 400), |made, _, ends, rng| {
         let Some((packet, ends)) = rng.pick(ends) else {
             return;
         };

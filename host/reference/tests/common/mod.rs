@@ -4,9 +4,11 @@
 
 use std::cell::Cell;
 
+use reference::brute::{ends, Ends, BUDGET, MOST_WAYS};
 use reference::calls::{read_answer, Answer, ANSWER_WORDS};
 use reference::examples::{run_query, wild_query};
 use reference::file::write;
+use reference::random::{cases, small, small_query, ties, Rng, Small};
 use reference::{run, Fabric, Query};
 
 /// One of the three calls.
@@ -41,8 +43,27 @@ pub fn filled(words: &[u32]) -> Vec<u32> {
     words
 }
 
+/// Small fabrics, each with a query and all ends, for so many seeds from the
+/// first on.
+pub fn on_cases(seeds: (u64, u64), check: impl Fn(&Small, &Query, &Ends, &mut Rng)) {
+    cases(seeds.0, seeds.1, |rng| {
+        let made = if rng.once_in(2) {
+            small(rng)
+        } else {
+            ties(rng)
+        };
+        let query = Query {
+            budget: BUDGET,
+            ..small_query(rng, &made)
+        };
+        if let Some(ends) = ends(&made.fabric, &made.bits, query.limit, MOST_WAYS) {
+            check(&made, &query, &ends, rng);
+        }
+    });
+}
+
 /// Counts how often something was seen.
-#[derive(Default)]
+#[derive(Debug, Default)]
 pub struct Seen(Cell<u32>);
 
 impl Seen {
