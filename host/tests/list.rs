@@ -8,7 +8,7 @@ use reference::examples::{
     edge, entry, fabric, fabric_f, many_finds, to_tp_dst, tp_dst, wild_query,
 };
 use reference::file::write;
-use reference::random::{any, campus, cases, deep_ring, query, twenty_denies, Rng};
+use reference::random::{any, campus, cases, deep_ring, query, replies, twenty_denies, Rng};
 use reference::{Entry, Query, Set};
 
 /// Room for any list of these tests.
@@ -101,6 +101,7 @@ fn long_lists() {
     for (benchmark, room) in [
         (campus(), ROOM),
         (deep_ring(), ROOM),
+        (replies(), ROOM),
         (twenty_denies(), 48 << 20),
     ] {
         let (file, asked) = (write(&benchmark.fabric), benchmark.query);

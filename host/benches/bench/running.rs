@@ -6,7 +6,7 @@ use crate::timing::{in_words, race};
 use crate::to_host;
 use mwishovala::raw;
 use reference::file::write;
-use reference::random::{campus, deep_ring};
+use reference::random::{campus, deep_ring, replies};
 use reference::{Fabric, Query};
 
 pub fn table() {
@@ -20,6 +20,13 @@ pub fn table() {
         [0x0a00_0001, 0x0a01_0001, 80, 6],
     );
     row("deep ring", &deep_ring().fabric, 1, [0; 4]);
+    // The same way, and back swapped.
+    row(
+        "replies",
+        &replies().fabric,
+        1,
+        [0x0a00_0001, 0x0a01_0001, 80, 0x0406],
+    );
     println!();
 }
 

@@ -1,4 +1,4 @@
-//! Verdict and list on the three benchmark fabrics, whose targets are
+//! Verdict and list on the four benchmark fabrics, whose targets are
 //! isolated: the whole trace is made.
 
 use std::hint::black_box;
@@ -8,14 +8,14 @@ use crate::timing::{in_words, race, Times};
 use crate::to_host;
 use mwishovala::raw;
 use reference::file::{to_le_words, write};
-use reference::random::{campus, deep_ring, twenty_denies, Benchmark};
+use reference::random::{campus, deep_ring, replies, twenty_denies, Benchmark};
 
 pub fn table() {
     println!(
         "{:<15} {:>8} {:<8} {:>10} {:>10} {:>6} {:>12} {:>12}",
         "fabric", "units", "call", "product", "reference", "ratio", "product", "reference"
     );
-    for benchmark in [campus(), twenty_denies(), deep_ring()] {
+    for benchmark in [campus(), twenty_denies(), deep_ring(), replies()] {
         rows(&benchmark);
     }
     println!();

@@ -13,7 +13,7 @@ mod small;
 mod switches;
 mod transfers;
 
-pub use benchmark::{campus, deep_ring, twenty_denies, Benchmark};
+pub use benchmark::{campus, deep_ring, replies, twenty_denies, Benchmark};
 pub use damage::{damage, inflict, Damage, Damaged};
 pub use denies::{beater_chain, wild_under_denies};
 pub use largest::largest;

@@ -90,6 +90,8 @@ impl<'i, V: FnMut(&Find) -> ControlFlow<()>> Tracer<'i, '_, V> {
     /// one unit each. Undo the rewrite for T and intersect with the match; if
     /// empty, next entry. Carve by the entries that beat it, in file order."
     /// With the rewrite, the copy or swap before it is undone.
+    // Not inlined into carving, it costs the whole trace a few percent.
+    #[inline(always)]
     fn stop(&mut self, out_port: u16, wanted: &Set, left: usize) -> Result<(), Halt> {
         let index = self.index;
         for entry in index.with_out_port(out_port) {

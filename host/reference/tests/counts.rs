@@ -6,7 +6,7 @@ mod common;
 use common::{answer, Seen};
 use reference::examples::{edge, entry, fabric, link, tp_dst, wild_query};
 use reference::file::write;
-use reference::random::{any, campus, cases, deep_ring, query, Benchmark};
+use reference::random::{any, campus, cases, deep_ring, query, replies, Benchmark};
 use reference::ternary::{self, Event, Ternary};
 use reference::{list, verdict, Entry, Fabric, Query, Set};
 
@@ -80,7 +80,7 @@ fn every_budget_and_room() {
 /// The benchmarks that aren't counted by hand.
 #[test]
 fn benchmarks_are_counted() {
-    for Benchmark { fabric, query, .. } in [campus(), deep_ring()] {
+    for Benchmark { fabric, query, .. } in [campus(), deep_ring(), replies()] {
         let events = ternary::events(&fabric, &query, 200_000).unwrap();
         check_budgets(&fabric, &query, &events);
     }

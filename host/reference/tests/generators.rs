@@ -8,8 +8,8 @@ use common::answer;
 use reference::file::{read, write};
 use reference::index::Index;
 use reference::random::{
-    any, beater_chain, campus, cases, dead_ends, deep_ring, largest, ring, small, small_ring,
-    switches, ties, tiny, twenty_denies, wild_under_denies, Benchmark, Rng, Small,
+    any, beater_chain, campus, cases, dead_ends, deep_ring, largest, replies, ring, small,
+    small_ring, switches, ties, tiny, twenty_denies, wild_under_denies, Benchmark, Rng, Small,
 };
 use reference::trace::trace;
 use reference::{list, verdict, Entry, Fabric, Query, Set, Transfer};
@@ -188,4 +188,6 @@ fn the_benchmarks() {
     assert_eq!(most_hops(&deep_ring().fabric), 16);
     assert_eq!(measure(campus(), 1 << 20), (504, 6722, 468));
     assert_eq!(most_hops(&campus().fabric), 3);
+    assert_eq!(measure(replies(), 1 << 20), (384, 10_351, 1287));
+    assert_eq!(most_hops(&replies().fabric), 7);
 }

@@ -1,11 +1,13 @@
-//! Three fabrics to measure time with. In each of them the target is isolated,
+//! Four fabrics to measure time with. In each of them the target is isolated,
 //! so that a verdict has to make the whole trace.
 
 mod campus;
 mod deep_ring;
+mod replies;
 
 pub use campus::campus;
 pub use deep_ring::deep_ring;
+pub use replies::replies;
 
 use crate::calls::Query;
 use crate::examples::{edge, entry, fabric, wild_query};

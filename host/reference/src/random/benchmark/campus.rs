@@ -6,32 +6,37 @@ use crate::fabric::{Edge, Entry, Fabric, Link};
 use crate::set::Set;
 
 const BUILDINGS: u16 = 6;
-const TENANTS: u16 = 8;
-const CORES: u16 = 2;
+pub(super) const TENANTS: u16 = 8;
+pub(super) const CORES: u16 = 2;
 
-/// A routed campus of 504 entries: in each of six buildings a switch with an
-/// edge for each of eight tenants, and two core switches. A tenant's edges send
-/// to each other, tagged with the tenant's dl_vlan; Telnet and SMB are denied
-/// where they come in, one host in the core.
+/// A routed campus of six buildings and 504 entries.
 pub fn campus() -> Benchmark {
+    Benchmark::all_wild("campus", routed(BUILDINGS), tenant_port(0, 0))
+}
+
+/// In each building a switch with an edge for each of eight tenants, and two
+/// core switches. A tenant's edges send to each other, tagged with the tenant's
+/// dl_vlan; Telnet and SMB are denied where they come in, one host in the core.
+pub(super) fn routed(buildings: u16) -> Fabric {
     let mut fabric = Fabric::default();
-    for building in 0..BUILDINGS {
+    for building in 0..buildings {
+        let others: Vec<u16> = (0..buildings).filter(|&other| other != building).collect();
         for tenant in 0..TENANTS {
-            add_tenant(&mut fabric, building, tenant);
+            add_tenant(&mut fabric, building, tenant, &others);
         }
         for core in 0..CORES {
             add_uplink(&mut fabric, building, core);
-            add_core_routes(&mut fabric, building, core);
+            add_core_routes(&mut fabric, building, core, &others);
         }
     }
-    Benchmark::all_wild("campus", fabric, tenant_port(0, 0))
+    fabric
 }
 
-fn tenant_port(building: u16, tenant: u16) -> u16 {
+pub(super) fn tenant_port(building: u16, tenant: u16) -> u16 {
     1 + building * TENANTS + tenant
 }
 
-fn uplink_port(building: u16, core: u16) -> u16 {
+pub(super) fn uplink_port(building: u16, core: u16) -> u16 {
     100 + building * CORES + core
 }
 
@@ -40,15 +45,15 @@ fn core_port(building: u16, core: u16) -> u16 {
 }
 
 /// 10.building.tenant.0
-fn network(building: u16, tenant: u16) -> u32 {
+pub(super) fn network(building: u16, tenant: u16) -> u32 {
     10 << 24 | u32::from(building) << 16 | u32::from(tenant) << 8
 }
 
-fn tag(tenant: u16) -> u32 {
+pub(super) fn tag(tenant: u16) -> u32 {
     u32::from(tenant + 1) << 16
 }
 
-fn add_tenant(fabric: &mut Fabric, building: u16, tenant: u16) {
+fn add_tenant(fabric: &mut Fabric, building: u16, tenant: u16, others: &[u16]) {
     let port = tenant_port(building, tenant);
     let own = network(building, tenant);
     fabric.edges.push(Edge {
@@ -60,7 +65,7 @@ fn add_tenant(fabric: &mut Fabric, building: u16, tenant: u16) {
         let matching = Set::of_words([0, 0, 0xffff, 0xff], [0, 0, service, 6]);
         fabric.entries.push(deny(30, port, matching));
     }
-    for other in (0..BUILDINGS).filter(|&other| other != building) {
+    for &other in others {
         let to = network(other, tenant);
         fabric.entries.push(Entry {
             matching: Set::of_words([0xffff_ff00, 0xffff_ff00, 0, 0], [own, to, 0, 0]),
@@ -87,12 +92,12 @@ fn add_uplink(fabric: &mut Fabric, building: u16, core: u16) {
     }
 }
 
-fn add_core_routes(fabric: &mut Fabric, building: u16, core: u16) {
+fn add_core_routes(fabric: &mut Fabric, building: u16, core: u16, others: &[u16]) {
     let in_port = core_port(building, core);
     let host = network(2, 0) | 77;
     let matching = Set::of_words([u32::MAX, 0, 0, 0], [host, 0, 0, 0]);
     fabric.entries.push(deny(32, in_port, matching));
-    for other in (0..BUILDINGS).filter(|&other| other != building) {
+    for &other in others {
         fabric.entries.push(Entry {
             matching: Set::of_words([0, 0xffff_0000, 0, 0], [0, network(other, 0), 0, 0]),
             ..entry(16, in_port, core_port(other, core))
