@@ -2,14 +2,16 @@
 
 mod common;
 
-use common::{agreed, checks, reference_alone, Seen, LIST};
-use reference::brute::finds;
+use common::{agreed, checks, reference_alone, transfers, Seen, LIST};
+use reference::brute::{finds, Find};
 use reference::examples::{
-    edge, entry, fabric, fabric_f, many_finds, to_tp_dst, tp_dst, wild_query,
+    edge, entry, fabric, fabric_f, many_finds, nw_dst, nw_src, one_reply, replies_behind_a_link,
+    to_tp_dst, tp_dst, wild_query,
 };
 use reference::file::write;
 use reference::random::{any, campus, cases, deep_ring, query, replies, twenty_denies, Rng};
-use reference::{Entry, Query, Set};
+use reference::set::to_words;
+use reference::{Entry, Query, Rewrite, Set, Transfer};
 
 /// Room for any list of these tests.
 const ROOM: usize = 1 << 20;
@@ -34,7 +36,7 @@ fn check_room(file: &[u8], asked: &Query, bytes: usize) {
 
 #[test]
 fn random_fabrics() {
-    let [listed, far, twice]: [Seen; 3] = Default::default();
+    let [listed, far, twice, moved]: [Seen; 4] = Default::default();
     cases(4_000_000, 8000, |rng| {
         let fabric = any(rng);
         let file = write(&fabric);
@@ -45,7 +47,10 @@ fn random_fabrics() {
                 let words = agreed(LIST, &file, bytes, &asked).unwrap();
                 listed.add((bytes > 0).into());
                 far.add((bytes > 10_000).into());
-                twice.add(has_a_pair_twice(&words).into());
+                let finds = finds(&words).unwrap();
+                twice.add(has_a_pair_twice(&finds).into());
+                let moves = |find: &Find| transfers(&fabric, &find.entries);
+                moved.add(finds.iter().any(moves).into());
             } else {
                 let _ = agreed(LIST, &file, rng.below(100), &asked);
             }
@@ -54,12 +59,12 @@ fn random_fabrics() {
     listed.at_least(2000);
     far.at_least(50);
     twice.at_least(200);
+    moved.at_least(1000);
 }
 
 /// Whether two of the first finds have a pair in common, by different ways.
-fn has_a_pair_twice(words: &[u32]) -> bool {
-    let mut finds = finds(words).unwrap();
-    finds.truncate(50);
+fn has_a_pair_twice(finds: &[Find]) -> bool {
+    let finds = &finds[..finds.len().min(50)];
     let mut pairs = finds.iter().flat_map(|a| finds.iter().map(move |b| (a, b)));
     pairs.any(|(a, b)| a.port == b.port && a.entries != b.entries && a.set.meets(&b.set))
 }
@@ -208,6 +213,46 @@ fn undoing_a_rewrite() {
     assert_eq!(list(Set::ALL_WILD, [0xffff, 6]), []);
     let tp_dst_80 = find([0, 0, 0xffff, 0, 0, 0, 80, 0]);
     assert_eq!(list(tp_dst(80), [0, 0]), tp_dst_80);
+}
+
+/// Document 02's 2.5: what is undone of one entry that copies or swaps, and of one
+/// that then writes nw_src 10.0.0.254.
+#[test]
+fn undoing_a_transfer() {
+    let (copy, swap, none) = (Transfer::Copy, Transfer::Swap, Rewrite::NONE);
+    let gateway = Rewrite::to(nw_src(u32::MAX, 0x0a0000fe));
+    let to_10_1 = nw_dst(0xffff0000, 0x0a010000);
+    let to_11 = nw_dst(0xff000000, 0x0b000000);
+    let from_10 = |to: Set| to.intersect(&nw_src(0xff000000, 0x0a000000)).unwrap();
+    let from_10_1 = [0xffff0000, 0, 0, 0, 0x0a010000, 0, 0, 0];
+    let from_11_to_10 = [0xff000000, 0xff000000, 0, 0, 0x0b000000, 0x0a000000, 0, 0];
+    for (transfer, rewrite, exit, found) in [
+        (copy, none, to_10_1, Some(from_10_1)),
+        (copy, none, from_10(to_10_1), Some(from_10_1)),
+        (copy, none, from_10(to_11), None),
+        (swap, none, from_10(to_11), Some(from_11_to_10)),
+        (swap, gateway, from_10(to_10_1), Some(from_10_1)),
+        (swap, gateway, nw_src(u32::MAX, 0x0a0000fd), None),
+    ] {
+        let asked = Query {
+            care: to_words(exit.care),
+            value: to_words(exit.value),
+            ..wild_query(2, 1, 1)
+        };
+        let words = agreed(LIST, &write(&one_reply(transfer, rewrite)), 40, &asked).unwrap();
+        let find = found.map(|set| [&[0x60001001, 0x70000000], &set[..]].concat());
+        assert_eq!(words, find.unwrap_or_default(), "{transfer:?}, {exit:x?}");
+    }
+}
+
+/// Six units, and two finds of twelve words.
+#[test]
+fn replies_on_the_way() {
+    let file = write(&replies_behind_a_link());
+    let of = |budget, lent| agreed(LIST, &file, lent, &wild_query(2, 3, budget));
+    assert_eq!(of(6, 96).map(|words| words.len()), Ok(24));
+    assert_eq!(of(6, 95), Err((12, 0)));
+    assert_eq!(of(5, 96), Err((13, 0)));
 }
 
 /// Any room, from none up.

@@ -3,7 +3,9 @@
 mod common;
 
 use common::program::{printed, printed_in_pieces};
-use reference::examples::{fabric_f, leak_by_choice, run_query, wild_query};
+use reference::examples::{
+    fabric_f, leak_by_choice, replies_behind_a_link, run_query, swapped_and_dropped, wild_query,
+};
 use reference::file::write;
 use reference::query::{input, print, RUN, VERDICT};
 use reference::random::{any, cases, damage, packet, query};
@@ -86,6 +88,31 @@ fn a_tied_run() {
     let text = printed(&asked);
     assert_eq!(text, print(&asked));
     assert!(text.starts_with("ok 24\n00000001\n"));
+}
+
+/// A reply's run, and a drop's that swaps; a transfer of 3 is refused.
+#[test]
+fn runs_of_replies() {
+    let replies = write(&replies_behind_a_link());
+    let ask = |file: &[u8], header| {
+        let asked = input(RUN, &run_query(1, 16, header), file);
+        let text = printed(&asked);
+        assert_eq!(text, print(&asked));
+        text
+    };
+    let left = ask(&replies, [4, 0x0a00_0009, 5, 6]);
+    assert!(left.starts_with(
+        "ok 24\n00000000\n00000000\n00000002\n00000003\n0a000009\n00000004\n00000005\n00000006\n"
+    ));
+    let dropped = ask(&write(&swapped_and_dropped()), [1, 2, 7, 3]);
+    assert!(dropped.starts_with(
+        "ok 24\n00000001\n00000000\n00000001\n00000001\n00000002\n00000001\n00000007\n00000003\n"
+    ));
+    // Entry 1 begins at word 39; its second word ends at byte 163.
+    let mut refused = replies.clone();
+    assert_eq!(refused[163], 0x20);
+    refused[163] = 0x30;
+    assert_eq!(ask(&refused, [0; 4]), "no 3 at 39\n");
 }
 
 mod trace {

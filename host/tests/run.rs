@@ -4,7 +4,7 @@ mod common;
 
 use std::cell::Cell;
 
-use common::{agreed, checks, Seen, RUN};
+use common::{agreed, checks, transfers, Seen, RUN};
 use reference::brute;
 use reference::examples::{fabric_f, run_query};
 use reference::file::{read, to_le_bytes, write};
@@ -26,10 +26,11 @@ fn some_length(rng: &mut Rng) -> usize {
     }
 }
 
-/// All five fates come up, and are also what naive forwarding gives.
+/// All five fates come up, by ways with copies and swaps too, and are also what
+/// naive forwarding gives.
 #[test]
 fn random_fabrics() {
-    let fates: [Cell<u32>; 5] = Default::default();
+    let (fates, moved): ([Cell<u32>; 5], [Seen; 5]) = Default::default();
     cases(1_000_000, 15_000, |rng| {
         let fabric = any(rng);
         let file = write(&fabric);
@@ -40,11 +41,15 @@ fn random_fabrics() {
                 assert_eq!(words, naive.words().unwrap());
                 let fate = &fates[words[0] as usize];
                 fate.set(fate.get() + 1);
+                moved[words[0] as usize].add(transfers(&fabric, &naive.entries).into());
             }
         }
     });
     let replayed = fates.iter().map(Cell::get).sum::<u32>() <= 10;
     assert!(replayed || fates.iter().all(|fate| fate.get() > 500));
+    for moved in moved {
+        moved.at_least(300);
+    }
 }
 
 /// Every header over a few bits, from every edge port.

@@ -30,23 +30,27 @@ fn tiny_fabrics() {
 fn small_fabrics() {
     let tally = CHECKED.on_many(5_100_000, 6000, small);
     tally.has(10, &Fact::OF_TIES);
+    tally.has(30, &Fact::OF_TRANSFERS);
 }
 
 #[test]
 fn fabrics_of_ties() {
     let tally = CHECKED.on_many(5_200_000, 8000, ties);
     tally.has(60, &Fact::OF_TIES);
+    tally.has(80, &Fact::OF_TRANSFERS);
 }
 
 #[test]
 fn fabrics_with_dead_ends() {
     let tally = CHECKED.on_many(5_300_000, 5000, dead_ends);
     tally.has(10, &Fact::OF_TIES);
+    tally.has(30, &Fact::OF_TRANSFERS);
 }
 
 #[test]
 fn small_rings() {
     let tally = CHECKED.on_many(5_400_000, 5000, small_ring);
     tally.has(80, &Fact::OF_TIES);
+    tally.has(150, &Fact::OF_TRANSFERS);
     tally.has(1500, &[Fact::FoundFar]);
 }

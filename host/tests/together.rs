@@ -3,7 +3,7 @@
 
 mod common;
 
-use common::{to_host, Seen};
+use common::{to_host, transfers, Seen};
 use mwishovala::{list_growing, run, verdict, Fabric, Fate, Find, Header, HeaderSet, Verdict};
 use reference::file::write;
 use reference::random::{any, cases, packet, query, Rng};
@@ -121,17 +121,19 @@ fn on_lists(first: u64, check: impl Fn(&Listed, &mut Rng)) {
 
 #[test]
 fn finds_arrive_by_their_own_ways() {
-    let (listed, tied) = (Seen::default(), Seen::default());
+    let [listed, tied, moved]: [Seen; 3] = Default::default();
     on_lists(6_000_000, |list, rng| {
         for find in list.finds.iter().take(MOST_FINDS) {
             for header in [find.set.lowest(), one_of(&find.set, rng)] {
                 tied.add(list.arrives(find, &header).into());
             }
+            moved.add(transfers(list.made, &numbers(find)).into());
         }
         listed.add(list.finds.len());
     });
     listed.at_least(10_000);
     tied.at_least(10_000);
+    moved.at_least(10_000);
 }
 
 #[test]

@@ -2,7 +2,7 @@
 
 mod common;
 
-use common::{agreed, checks, Seen, VERDICT};
+use common::{agreed, checks, transfers, Seen, VERDICT};
 use mwishovala::{verdict, Verdict};
 use reference::examples::{fabric_f, wild_query};
 use reference::file::write;
@@ -19,10 +19,11 @@ fn some_length(rng: &mut Rng) -> usize {
     }
 }
 
-/// What is shown arrives by its own entries; its run may be tied.
+/// What is shown arrives by its own entries, some of which copy or swap; its run
+/// may be tied.
 #[test]
 fn random_fabrics() {
-    let [isolated, reached, tied]: [Seen; 3] = Default::default();
+    let [isolated, reached, tied, moved]: [Seen; 4] = Default::default();
     cases(3_000_000, 15_000, |rng| {
         let fabric = any(rng);
         let file = write(&fabric);
@@ -37,11 +38,13 @@ fn random_fabrics() {
                     let fate = arrives_by_its_entries(&fabric, &asked, &words);
                     reached.add(1);
                     tied.add((fate == TIED).into());
+                    let way = &words[8..][..words[3] as usize];
+                    moved.add(transfers(&fabric, way).into());
                 }
             }
         }
     });
-    for seen in [isolated, reached, tied] {
+    for seen in [isolated, reached, tied, moved] {
         seen.at_least(1000);
     }
 }

@@ -6,7 +6,7 @@ use std::thread;
 
 use super::{agreed, Call};
 use mwishovala::limits;
-use reference::examples::{fabric_f, linked};
+use reference::examples::{fabric_f, linked, replies_behind_a_link};
 use reference::file::write;
 use reference::random::{any, cases, damage, deep_ring, inflict, query, Damage, Rng};
 use reference::{Fabric, Query};
@@ -96,9 +96,11 @@ pub fn every_length_of_file_and_area(call: Call, asked: &Query) {
     }
 }
 
-/// Every bit flipped, of F and of a fabric with links.
+/// Every bit flipped, of F and of two fabrics with links, of which one copies and
+/// swaps.
 pub fn every_bit_matters_alike(call: Call, lent: usize, asked: &Query) {
-    for whole in [fabric_f(), write(&linked())] {
+    let (linked, replies) = (linked(), replies_behind_a_link());
+    for whole in [fabric_f(), write(&linked), write(&replies)] {
         for bit in 0..8 * whole.len() {
             let mut file = whole.clone();
             file[bit / 8] ^= 1 << (bit % 8);

@@ -14,7 +14,7 @@ use std::cell::Cell;
 
 use mwishovala::{raw, QUERY_NUMBERS};
 use reference::calls::{read_answer, Answer};
-use reference::Query;
+use reference::{Fabric, Query, Transfer};
 
 /// One of the three calls, twice.
 #[derive(Clone, Copy)]
@@ -132,6 +132,14 @@ impl Guarded {
 
 fn guard_byte(place: usize) -> u8 {
     (place * 31 + 0x50) as u8
+}
+
+/// Whether one of the entries with these numbers copies or swaps.
+pub fn transfers(fabric: &Fabric, numbers: &[u32]) -> bool {
+    let mut entries = numbers
+        .iter()
+        .map(|&number| &fabric.entries[number as usize]);
+    entries.any(|entry| entry.transfer != Transfer::None)
 }
 
 /// How often something was seen.
