@@ -10,7 +10,6 @@ use reference::examples::{
 };
 use reference::file::write;
 use reference::random::{any, campus, cases, deep_ring, query, replies, twenty_denies, Rng};
-use reference::set::to_words;
 use reference::{Entry, Query, Rewrite, Set, Transfer};
 
 /// Room for any list of these tests.
@@ -234,11 +233,7 @@ fn undoing_a_transfer() {
         (swap, gateway, from_10(to_10_1), Some(from_10_1)),
         (swap, gateway, nw_src(u32::MAX, 0x0a0000fd), None),
     ] {
-        let asked = Query {
-            care: to_words(exit.care),
-            value: to_words(exit.value),
-            ..wild_query(2, 1, 1)
-        };
+        let asked = wild_query(2, 1, 1).about(exit);
         let words = agreed(LIST, &write(&one_reply(transfer, rewrite)), 40, &asked).unwrap();
         let find = found.map(|set| [&[0x60001001, 0x70000000], &set[..]].concat());
         assert_eq!(words, find.unwrap_or_default(), "{transfer:?}, {exit:x?}");

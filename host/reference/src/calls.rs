@@ -27,6 +27,15 @@ impl Query {
     pub fn asked(&self) -> Set {
         Set::of_words(self.care, self.value)
     }
+
+    /// The same query about this set.
+    pub fn about(self, asked: Set) -> Query {
+        Query {
+            care: to_words(asked.care),
+            value: to_words(asked.value),
+            ..self
+        }
+    }
 }
 
 /// The words that a verdict or a run fills.

@@ -11,7 +11,7 @@ use reference::file::{read, to_le_bytes, to_le_words, write};
 use reference::query::{input, print, LIST, VERDICT};
 use reference::set::{from_words, to_words};
 use reference::ways::Packet;
-use reference::{list, verdict, Fabric, Query, Refusal, Rewrite, Set, Transfer};
+use reference::{list, verdict, Fabric, Refusal, Rewrite, Set, Transfer};
 
 const COPY: Transfer = Transfer::Copy;
 const SWAP: Transfer = Transfer::Swap;
@@ -24,11 +24,7 @@ fn both(src: Set, dst: Set) -> Set {
 
 /// The list of what one entry brings to port 2 with a header in this set.
 fn back(fabric: &Fabric, exit: Set) -> Vec<u32> {
-    let query = Query {
-        care: to_words(exit.care),
-        value: to_words(exit.value),
-        ..wild_query(2, 1, 1)
-    };
+    let query = wild_query(2, 1, 1).about(exit);
     answer(list, &write(fabric), 40, &query).unwrap()
 }
 
@@ -190,9 +186,8 @@ fn the_transfer_in_the_file() {
 /// it the same two parts; only what is wanted at the exit changes its place.
 #[test]
 fn the_list_of_f_with_a_swap() {
-    let mut query = wild_query(2, 1, 2);
-    (query.care[0], query.value[0]) = (ALL, 0x0a000002);
-    (query.care[1], query.value[1]) = (0xff, 5);
+    let exit = both(nw_src(ALL, 0x0a000002), nw_dst(0xff, 5));
+    let query = wild_query(2, 1, 2).about(exit);
     let printed = print(&input(LIST, &query, &f_with(0x20000002)));
     let parts = ["00000002 00000000", "00000003 00000000"];
     let values = ["00000002 00000000", "00000000 00000000"];

@@ -3,6 +3,7 @@
 use super::parts::{set_over, spread_bits};
 use super::{Rng, Small};
 use crate::calls::Query;
+use crate::examples::wild_query;
 use crate::fabric::Fabric;
 use crate::set::{to_words, Set};
 use crate::transfer::Transfer;
@@ -22,17 +23,15 @@ pub fn query(rng: &mut Rng, fabric: &Fabric, most: u32) -> Query {
             set_over(rng, &bits, 3)
         }
     };
-    let mut value = to_words(asked.value);
-    if rng.once_in(30) {
-        value[rng.below(4)] ^= 1 << rng.below(32);
-    }
-    Query {
-        port: port(rng, fabric),
-        limit: limit(rng),
-        budget: budget(rng, most),
-        care: to_words(asked.care),
-        value,
-    }
+    let stray = match rng.once_in(30) {
+        true => 1 << rng.below(128),
+        false => 0,
+    };
+    let query = wild_query(port(rng, fabric), limit(rng), budget(rng, most));
+    query.about(Set {
+        care: asked.care,
+        value: asked.value ^ stray,
+    })
 }
 
 /// A query in range that cares for the fabric's few bits alone, with all of
@@ -43,13 +42,7 @@ pub fn small_query(rng: &mut Rng, small: &Small) -> Query {
         true => 16,
         false => rng.between(1, 6) as u32,
     };
-    Query {
-        port: target(rng, &small.fabric),
-        limit,
-        budget: u32::MAX,
-        care: to_words(asked.care),
-        value: to_words(asked.value),
-    }
+    wild_query(target(rng, &small.fabric), limit, u32::MAX).about(asked)
 }
 
 /// An edge port, mostly one that an entry sends to; 0 if there is none.

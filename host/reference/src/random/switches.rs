@@ -74,11 +74,12 @@ fn add_routes(rng: &mut Rng, fabric: &mut Fabric, own: &[u16], in_port: u16, swi
     }
 }
 
-/// Some routes are for one tp_dst or one dl_vlan alone.
+/// Some routes are for one tp_dst, one dl_vlan or one switch's packets alone.
 fn route(rng: &mut Rng, prefix: Set) -> Set {
     let (care, value) = match rng.below(8) {
         0 => ([0, 0, 0xffff, 0], [0, 0, rng.one_of([22, 80, 81]), 0]),
         1 => ([0, 0, 0, 0xffff_0000], [0, 0, 0, rng.one_of([1, 2]) << 16]),
+        2 => ([0xffff_0000, 0, 0, 0], [address(rng.below(3), 0), 0, 0, 0]),
         _ => ([0; 4], [0; 4]),
     };
     let only = Set::of_words(care, value);
