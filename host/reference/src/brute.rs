@@ -4,8 +4,8 @@
 //! forwarding is that of `ways`. Any implementation's words can be checked, and
 //! `many` does so on many random fabrics.
 //!
-//! It is for fabrics and queries that care for and rewrite only these bits;
-//! on all others headers are then alike.
+//! It is for fabrics and queries that care for and rewrite only these bits, and
+//! copy and swap them among themselves; on all others headers are then alike.
 
 mod facts;
 mod many;
