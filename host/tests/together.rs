@@ -127,7 +127,7 @@ fn finds_arrive_by_their_own_ways() {
             for header in [find.set.lowest(), one_of(&find.set, rng)] {
                 tied.add(list.arrives(find, &header).into());
             }
-            moved.add(transfers(list.made, &numbers(find)).into());
+            moved.add(transfers(list.made, &find.entries).into());
         }
         listed.add(list.finds.len());
     });

@@ -135,11 +135,9 @@ fn guard_byte(place: usize) -> u8 {
 }
 
 /// Whether one of the entries with these numbers copies or swaps.
-pub fn transfers(fabric: &Fabric, numbers: &[u32]) -> bool {
-    let mut entries = numbers
-        .iter()
-        .map(|&number| &fabric.entries[number as usize]);
-    entries.any(|entry| entry.transfer != Transfer::None)
+pub fn transfers(fabric: &Fabric, numbers: &[impl Copy + Into<u32>]) -> bool {
+    let mut numbers = numbers.iter().map(|&number| number.into() as usize);
+    numbers.any(|number| fabric.entries[number].transfer != Transfer::None)
 }
 
 /// How often something was seen.
