@@ -1,7 +1,11 @@
 //! Entries of the same in-port and priority that match the same headers.
 
+#[cfg(test)]
+mod tests;
+
 use crate::fabric::Fabric;
 use crate::finds::Find;
+use crate::header::HeaderSet;
 use crate::record::Entry;
 
 /// For each entry of a fabric the others of its in-port and priority whose match
@@ -30,16 +34,15 @@ impl<'f, const N: usize> Equals<'f, N> {
     /// that might take its packets too, or some of them: their match meets what
     /// arrives there. No match that beats them does, or it would be no find.
     pub fn along(&self, find: &Find<N>) -> Vec<Vec<u16>> {
-        let mut here = find.set;
+        let mut before = Vec::new();
         let at_hop = |&number: &u16| {
             let Some((entry, equals)) = self.entries.get(usize::from(number)) else {
                 return Vec::new();
             };
-            let met = equals
-                .iter()
-                .filter(|(_, other)| other.matching.meets(&here));
+            let met = |other: &Entry<N>| arrive_in(&other.matching, &find.set, &before);
+            let met = equals.iter().filter(|(_, other)| met(other));
             let met = met.map(|(other, _)| *other).collect();
-            here = here.after(&entry.rewrite);
+            before.push(*entry);
             met
         };
         find.entries.iter().map(at_hop).collect()
@@ -53,4 +56,12 @@ impl<'f, const N: usize> Equals<'f, N> {
             later.map(move |&equal| [(number, *entry), equal])
         })
     }
+}
+
+/// Whether some headers of a set arrive in another one by this way. What arrives
+/// is no header set where addresses are copied; what is wanted, undone, is one.
+fn arrive_in<const N: usize>(wanted: &HeaderSet<N>, set: &HeaderSet<N>, way: &[&Entry<N>]) -> bool {
+    let mut back = way.iter().rev();
+    let at_start = back.try_fold(*wanted, |wanted, entry| entry.action_undone(&wanted));
+    at_start.is_some_and(|wanted| wanted.meets(set))
 }

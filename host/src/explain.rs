@@ -1,6 +1,7 @@
 //! Why a question got a no, in words: the record at the place is read again.
 //! The answer itself is the proved library's; this only phrases it.
 
+use crate::action::Transfer;
 use crate::fabric::Fabric;
 use crate::header::HeaderSet;
 use crate::limits::{
@@ -9,7 +10,8 @@ use crate::limits::{
 };
 use crate::query::Query;
 use crate::record::{
-    record_words, Edge, Entry, Link, Record, EDGE, END, ENTRY, LINK, START, VERSION,
+    record_words, transfer_number, Edge, Entry, Link, Record, EDGE, END, ENTRY, LINK, START,
+    VERSION,
 };
 use crate::refusal::Question;
 use crate::words::Words;
@@ -97,8 +99,18 @@ fn record(words: Words, place: usize) -> String {
     } else if kind == END && left > 1 {
         format!("an end, but the file goes on for {} more words", left - 1)
     } else {
-        format!("{name} with bits set that have to be zero")
+        let transfer = wrong_transfer(words, place).filter(|_| kind == ENTRY);
+        transfer.unwrap_or_else(|| format!("{name} with bits set that have to be zero"))
     }
+}
+
+/// What is wrong with an entry's transfer, if something is.
+fn wrong_transfer(words: Words, entry: usize) -> Option<String> {
+    let number = transfer_number(words.get(entry + 1)?);
+    let says = |transfer: Transfer| format!("{} {transfer}", transfer.number());
+    let known = Transfer::ALL.map(says).join(", ");
+    let is_wrong = Transfer::numbered(number).is_none();
+    is_wrong.then(|| format!("an entry with transfer {number}: {known}"))
 }
 
 /// Questions 4 to 7.

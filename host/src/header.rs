@@ -94,14 +94,6 @@ impl<const N: usize> HeaderSet<N> {
         Header(std::array::from_fn(|word| kept(word) | self.value[word]))
     }
 
-    /// The headers that this rewrite makes of this set's.
-    pub(crate) fn after(&self, rewrite: &HeaderSet<N>) -> HeaderSet<N> {
-        HeaderSet {
-            care: std::array::from_fn(|word| self.care[word] | rewrite.care[word]),
-            value: rewrite.rewritten(&Header(self.value)).0,
-        }
-    }
-
     /// This set without the other one's headers: document 01's parts, in order.
     pub(crate) fn carved(&self, by: &HeaderSet<N>) -> impl Iterator<Item = HeaderSet<N>> {
         let (whole, by, meets) = (*self, *by, self.meets(by));

@@ -19,6 +19,7 @@
 #![deny(unsafe_code, missing_debug_implementations, missing_docs)]
 #![warn(unreachable_pub)]
 
+mod action;
 mod calls;
 #[doc(hidden)]
 pub mod command;
@@ -26,6 +27,8 @@ mod digest;
 mod equals;
 mod explain;
 mod fabric;
+#[cfg(test)]
+mod few_bits;
 mod field;
 mod finds;
 pub mod frame;
@@ -46,6 +49,7 @@ mod verdict;
 mod walks;
 mod words;
 
+pub use action::Transfer;
 pub use calls::{accept, run};
 pub use calls::{list, list_growing, verdict};
 pub use digest::Digest;

@@ -4,6 +4,7 @@
 use std::error::Error;
 use std::fmt;
 
+use crate::action::Transfer;
 use crate::header::HeaderSet;
 use crate::limits::MOST_PORT;
 use crate::words::Words;
@@ -49,6 +50,8 @@ pub struct Entry<const N: usize = 4> {
     pub out_port: u16,
     /// The headers that it takes.
     pub matching: HeaderSet<N>,
+    /// What it does with the addresses before it rewrites.
+    pub transfer: Transfer,
     /// What it writes; the care is the rewrite's mask.
     pub rewrite: HeaderSet<N>,
 }
@@ -86,7 +89,7 @@ pub(crate) const fn record_words<const N: usize>(kind: u32) -> usize {
 
 impl<'f> Words<'f> {
     /// The edge, link or entry that starts here; none if it has a bit set that
-    /// these have no place for.
+    /// these have no place for, or a transfer that there isn't.
     pub(crate) fn record<const N: usize>(&self, place: usize) -> Option<Record<N>> {
         let first = self.get(place)?;
         let upper = (first >> 12) as u16;
@@ -100,13 +103,17 @@ impl<'f> Words<'f> {
                 from: port_alone(first >> 12 & 0xffff)?,
                 to: port(first),
             })),
-            ENTRY => Some(Record::Entry(Entry {
-                priority: upper,
-                in_port: port(first),
-                out_port: port_alone(self.get(place + 1)?)?,
-                matching: self.set(place + 2)?,
-                rewrite: self.set(place + 2 + 2 * N)?,
-            })),
+            ENTRY => {
+                let second = self.get(place + 1)?;
+                Some(Record::Entry(Entry {
+                    priority: upper,
+                    in_port: port(first),
+                    out_port: port_alone(second & 0x0fff_ffff)?,
+                    matching: self.set(place + 2)?,
+                    transfer: Transfer::numbered(transfer_number(second))?,
+                    rewrite: self.set(place + 2 + 2 * N)?,
+                }))
+            }
             _ => None,
         }
     }
@@ -135,6 +142,11 @@ fn port_alone(word: u32) -> Option<u16> {
 }
 
 const PORT_BITS: u32 = 0xfff;
+
+/// The number in bits 31..28 of an entry's second word: its transfer's, or none's.
+pub(crate) fn transfer_number(second: u32) -> u32 {
+    second >> 28
+}
 
 /// Why records can't be written: the file's words have too few bits for them.
 #[derive(Clone, Copy, Debug, PartialEq, Eq)]
@@ -188,7 +200,7 @@ impl<const N: usize> Record<N> {
             Record::Link(link) => words.push(first(port_bits(link.from)?, link.to)?),
             Record::Entry(entry) => {
                 words.push(first(entry.priority.into(), entry.in_port)?);
-                words.push(port_bits(entry.out_port)?);
+                words.push(entry.transfer.number() << 28 | port_bits(entry.out_port)?);
                 write_set(&entry.matching, words);
                 write_set(&entry.rewrite, words);
             }

@@ -32,7 +32,7 @@ pub struct Run<const N: usize = 4> {
     pub port: u16,
     /// How many hops it made.
     pub hops: u32,
-    /// After the last rewrite made.
+    /// As the last entry that took it left it.
     pub header: Header<N>,
     /// The entries that took it.
     pub entries: Path,

@@ -80,7 +80,7 @@ impl<const N: usize> Fabric<N> {
         let hop = |&number: &u16| {
             let entry = *self.entries.get(usize::from(number))?;
             let header = here;
-            here = entry.rewrite.rewritten(&header);
+            here = entry.action_on(&header);
             Some(Hop {
                 number,
                 entry,
@@ -110,7 +110,7 @@ impl<const N: usize> Fabric<N> {
         }
         match (hops.last(), in_port) {
             (Some(last), None) => {
-                let left_with = last.entry.rewrite.rewritten(&last.header);
+                let left_with = last.entry.action_on(&last.header);
                 Some((last.entry.out_port, left_with))
             }
             _ => None,

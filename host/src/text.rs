@@ -7,6 +7,7 @@
 //! edge 2 group 9 admits any
 //! link 10 -> 11
 //! entry 1 -> 10 priority 20 match nw_dst=10.0.0.2,nw_proto=tcp,tp_dst=80 set dl_vlan=5
+//! entry 11 -> 12 priority 7 match nw_dst=10.0.0.80 swap set nw_tos=4
 //! entry 11 -> drop priority 1 match any
 //! name 2 storage-a
 //! switch leaf-1 1 10
@@ -17,7 +18,9 @@
 //! Names aren't in the fabric file: they are kept beside it.
 //!
 //! Entries are numbered from 0 as they stand; of equal priorities none comes
-//! first. Edges and links, whose order in a file is fixed, may stand anywhere.
+//! first. Behind its match an entry may `copy` nw_src over nw_dst or `swap` the
+//! two, and then `set` fields. Edges and links, whose order in a file is fixed,
+//! may stand anywhere.
 
 mod echo;
 mod line;
@@ -34,6 +37,7 @@ pub use pack::{pack, pack_named, Packed};
 pub use show::{show, show_named};
 
 pub(crate) use sets::parse_header;
+pub(crate) use show::action;
 
 use std::error::Error;
 use std::fmt;

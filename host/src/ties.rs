@@ -20,7 +20,7 @@ pub struct Tie<const N: usize = 4> {
     pub in_port: u16,
     /// The priority of both.
     pub priority: u16,
-    /// Whether both do the same: the same out-port and the same rewrite.
+    /// Whether both do the same: the same out-port, transfer and rewrite.
     pub same: bool,
     /// A header that either of them might take. None if more than
     /// [`MOST_PARTS`] have to be looked at to say whether there is one: then they
@@ -45,6 +45,7 @@ impl<const N: usize> Fabric<N> {
     /// # Ok::<(), Box<dyn std::error::Error>>(())
     /// ```
     pub fn ties(&self) -> Vec<Tie<N>> {
+        let does = |entry: &Entry<N>| (entry.out_port, entry.transfer, entry.rewrite);
         let mut ties = Vec::new();
         for [(number, entry), (other, equal)] in Equals::of(self).pairs() {
             let header = match self.tied_header(entry, equal) {
@@ -56,7 +57,7 @@ impl<const N: usize> Fabric<N> {
                 entries: [number, other],
                 in_port: entry.in_port,
                 priority: entry.priority,
-                same: (entry.out_port, entry.rewrite) == (equal.out_port, equal.rewrite),
+                same: does(entry) == does(equal),
                 header,
             });
         }

@@ -72,7 +72,7 @@ impl<const N: usize> Verdict<N> {
         };
         let mut set = query.asked;
         for hop in fabric.hops(header, entries)?.iter().rev() {
-            let undone = set.undone(&hop.entry.rewrite)?;
+            let undone = hop.entry.action_undone(&set)?;
             set = undone.intersection(&hop.entry.matching)?;
             for beater in fabric.beaters(&hop.entry) {
                 let mut parts = set.carved(&beater.matching);

@@ -152,11 +152,23 @@ fn wrong_lines() {
         ),
         (
             "entry 1 -> 2 priority 1 match any get any",
-            "1:35: 'get' instead of 'set'",
+            "1:35: 'get' instead of 'copy', 'swap' or 'set'",
         ),
         (
-            "entry 1 -> 2 priority 1 match any set",
-            "1:38: a header set, or 'any', is missing",
+            "entry 1 -> 2 priority 1 match any none set any",
+            "1:35: 'none' instead of 'copy', 'swap' or 'set'",
+        ),
+        (
+            "entry 1 -> 2 priority 1 match any swap copy",
+            "1:40: 'copy' instead of 'set'",
+        ),
+        (
+            "entry 1 -> 2 priority 1 match any set any swap",
+            "1:43: 'swap' is too much",
+        ),
+        (
+            "entry 1 -> 2 priority 1 match any copy set",
+            "1:43: a header set, or 'any', is missing",
         ),
         ("# é\nedge é group", "2:6: 'é' is no port"),
     ];
@@ -298,7 +310,7 @@ fn damaged_texts() {
 /// Texts of words that stand in fabrics, and of others, in any order.
 #[test]
 fn texts_at_random() {
-    const WORDS: [&str; 27] = [
+    const WORDS: [&str; 29] = [
         "name",
         "switch",
         "leaf-1",
@@ -315,6 +327,8 @@ fn texts_at_random() {
         "admits",
         "priority",
         "match",
+        "copy",
+        "swap",
         "set",
         "any",
         "tp_dst=80",

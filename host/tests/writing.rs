@@ -1,6 +1,7 @@
 //! A fabric is written as it stands, or not at all.
 
-use mwishovala::{accept, verdict, Edge, Entry, Fabric, HeaderSet, Link, Query, Unwritable};
+use mwishovala::{accept, verdict, Edge, Entry, Fabric, HeaderSet, Link, Query};
+use mwishovala::{Transfer, Unwritable};
 use reference::file::write;
 use reference::random::{any, cases};
 
@@ -18,6 +19,7 @@ fn entry(in_port: u16, out_port: u16) -> Entry {
         in_port,
         out_port,
         matching: HeaderSet::ALL_WILD,
+        transfer: Transfer::None,
         rewrite: HeaderSet::ALL_WILD,
     }
 }

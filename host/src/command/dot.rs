@@ -12,10 +12,10 @@ use super::loaded::Loaded;
 use super::manual::VERSION;
 use super::{describe, threads, Failure, Output, DONE};
 use crate::calls::verdict;
-use crate::header::HeaderSet;
 use crate::query::Query;
 use crate::record::Entry;
 use crate::takers::Hop;
+use crate::text::action;
 use crate::verdict::Verdict;
 use switches::switches;
 
@@ -179,10 +179,10 @@ fn others(loaded: &Loaded, way: &[Hop]) -> String {
     text
 }
 
-/// An entry's number, and what it rewrites.
+/// An entry's number, and what it does to a header.
 fn named(number: u16, entry: &Entry) -> String {
-    match entry.rewrite == HeaderSet::ALL_WILD {
-        true => number.to_string(),
-        false => format!("{number} (set {})", entry.rewrite),
+    match action(entry) {
+        Some(action) => format!("{number} ({action})"),
+        None => number.to_string(),
     }
 }

@@ -1,12 +1,14 @@
 //! What is read is all that a file says, or it isn't read.
 
 use super::Fabric;
+use crate::record::Record;
 use crate::text;
+use crate::words::Words;
 
 const TEXT: &str = "
     edge 1 group 7 admits nw_src=10.0.0.0/24
     link 10 -> 11
-    entry 1 -> 10 priority 20 match any set dl_vlan=5
+    entry 1 -> 10 priority 20 match any swap set dl_vlan=5
 ";
 
 /// The places of start, edge, link, the entry's second word, and end.
@@ -43,7 +45,7 @@ fn bits_without_a_meaning_are_not_read() {
     let zero_bits = [
         (START, 16..28),
         (LINK, 24..28),
-        (SECOND, 12..32),
+        (SECOND, 12..28),
         (END, 0..28),
     ];
     let file = text::pack(TEXT).unwrap();
@@ -58,6 +60,32 @@ fn bits_without_a_meaning_are_not_read() {
     }
     for word in [EDGE, ENTRY] {
         assert!(Fabric::whole(&with_bit(&file, word, 27)).is_some());
+    }
+}
+
+/// None, copy and swap are; what else has room there isn't.
+#[test]
+fn transfers_above_2_are_not_read() {
+    let file = text::pack(TEXT).unwrap();
+    for transfer in 0..16 {
+        let mut changed = file.clone();
+        let last = &mut changed[4 * SECOND + 3];
+        *last = *last & 0x0f | transfer << 4;
+        let expected = (transfer <= 2).then_some(transfer);
+        assert_eq!(transfer_of(&changed), expected);
+        let read = Fabric::whole(&changed).map(|fabric| fabric.entries[0].transfer as u8);
+        assert_eq!(read, expected);
+    }
+    for bit in 12..28 {
+        assert_eq!(transfer_of(&with_bit(&file, SECOND, bit)), None);
+    }
+}
+
+/// The transfer of the file's entry by itself, if it can be read.
+fn transfer_of(file: &[u8]) -> Option<u8> {
+    match Words(file).record::<4>(ENTRY)? {
+        Record::Entry(entry) => Some(entry.transfer as u8),
+        _ => None,
     }
 }
 

@@ -4,6 +4,7 @@ use super::echo::quoted;
 use super::sentence::{port_of, Sentence};
 use super::token::Token;
 use super::Wrong;
+use crate::action::Transfer;
 use crate::header::HeaderSet;
 use crate::record::{Edge, Entry, Link, Record};
 
@@ -74,18 +75,36 @@ fn entry(in_port: &Token, words: &mut Sentence) -> Result<Record, Wrong> {
     let priority = words.number("priority", u16::MAX)?;
     words.keyword("match")?;
     let matching = words.set()?;
-    let rewrite = match words.next() {
-        Some(word) if word.text == "set" => words.set()?,
-        Some(word) => {
-            return Err(word.wrong(format!("{} instead of 'set'", quoted(word.text))));
-        }
-        None => HeaderSet::ALL_WILD,
-    };
+    let (transfer, rewrite) = action(words)?;
     Ok(Record::Entry(Entry {
         priority,
         in_port,
         out_port,
         matching,
+        transfer,
         rewrite,
     }))
+}
+
+/// The transfers that a line names; one that names none has none.
+const NAMED: [Transfer; 2] = [Transfer::Copy, Transfer::Swap];
+
+/// What stands behind an entry's match: a transfer, then a rewrite; either may
+/// be missing.
+fn action(words: &mut Sentence) -> Result<(Transfer, HeaderSet), Wrong> {
+    let first = words.next();
+    let named = |word: Token| NAMED.into_iter().find(|named| named.name() == word.text);
+    let transfer = first.and_then(named);
+    let (next, expected) = match transfer {
+        Some(_) => (words.next(), "'set'"),
+        None => (first, "'copy', 'swap' or 'set'"),
+    };
+    let rewrite = match next {
+        Some(word) if word.text == "set" => words.set()?,
+        Some(word) => {
+            return Err(word.wrong(format!("{} instead of {expected}", quoted(word.text))));
+        }
+        None => HeaderSet::ALL_WILD,
+    };
+    Ok((transfer.unwrap_or_default(), rewrite))
 }

@@ -2,6 +2,7 @@
 
 use std::fmt::Write;
 
+use crate::action::Transfer;
 use crate::fabric::Fabric;
 use crate::header::HeaderSet;
 use crate::names::Names;
@@ -43,10 +44,24 @@ fn entry_line(entry: &Entry) -> String {
         "entry {} -> {out} priority {} match {}",
         entry.in_port, entry.priority, entry.matching
     );
-    if entry.rewrite != HeaderSet::ALL_WILD {
-        let _ = write!(line, " set {}", entry.rewrite);
+    if let Some(action) = action(entry) {
+        let _ = write!(line, " {action}");
     }
     line
+}
+
+/// What an entry does to a header, as its line says it: `swap set tp_dst=80`.
+/// None if it leaves every header as it is.
+pub(crate) fn action(entry: &Entry) -> Option<String> {
+    let set = match entry.rewrite == HeaderSet::ALL_WILD {
+        true => None,
+        false => Some(format!("set {}", entry.rewrite)),
+    };
+    match (entry.transfer, set) {
+        (Transfer::None, set) => set,
+        (transfer, None) => Some(transfer.name().into()),
+        (transfer, Some(set)) => Some(format!("{} {set}", transfer.name())),
+    }
 }
 
 fn count(number: usize, one: &str, many: &str) -> String {

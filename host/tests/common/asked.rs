@@ -1,6 +1,8 @@
 //! The command asked about one fabric in a folder, and its answers as JSON. It
 //! stands on the modules `command` and `json` beside it.
 
+#![allow(dead_code)]
+
 use std::fs;
 use std::path::{Path, PathBuf};
 
