@@ -13,6 +13,9 @@
 //! where there is none to make. [`Fabric::hops`] says where a way has others,
 //! and [`Fabric::ties`] where a fabric leaves a choice at all.
 //!
+//! What the entry that takes a packet makes of its header is
+//! [`Entry::action_on`]: it may copy or swap addresses, and then it rewrites.
+//!
 //! No function here panics, whatever bytes it is given. A thread that makes a
 //! call needs [`limits::STACK_BYTES`] of stack at least.
 

@@ -1,5 +1,5 @@
 //! Entries that copy or swap addresses before they rewrite (document 02, 2.5):
-//! in files and in texts.
+//! in files, in texts, and in what is said of a way.
 
 #[path = "common/asked.rs"]
 mod asked;
@@ -171,6 +171,50 @@ fn actions_in_a_line() {
     // A rewrite of nothing is none.
     let pack = |action: &str| pack(&format!("entry 3 -> 4 priority 9 match any {action}"));
     assert_eq!(pack("swap set any"), pack("swap"));
+}
+
+/// Hop by hop, what is done to the addresses, and what the header becomes.
+#[test]
+fn a_way_says_what_a_header_becomes() {
+    let folder = with("way", &format!("{EDGES}{REPLIES}"));
+    let reached = ran(&folder, "verdict fabric 2");
+    assert_eq!(reached.status, 1);
+    assert!(reached.text().contains(
+        "\nand takes this way\n  \
+         hop 1: in at port 1, out at port 10, over the link to port 11\n    \
+         entry 0, priority 5\n    \
+         match   nw_dst=10.0.0.80,nw_proto=17\n    \
+         rewrite none\n  \
+         hop 2: in at port 11, out at port 12, over the link to port 13\n    \
+         entry 1, priority 5\n    \
+         match   nw_proto=17\n    \
+         first   swaps nw_src and nw_dst\n    \
+         rewrite tp_src=53\n    \
+         becomes nw_src=10.0.0.80,nw_dst=10.7.0.2,tp_src=53,tp_dst=0,dl_vlan=0,nw_tos=0,nw_proto=17\n  \
+         hop 3: in at port 13, out at port 2, leaving the fabric\n    \
+         entry 2, priority 5\n    \
+         match   nw_dst=10.7.0.2\n    \
+         first   copies nw_src over nw_dst\n    \
+         rewrite none\n    \
+         becomes nw_src=10.0.0.80,nw_dst=10.0.0.80,tp_src=53,tp_dst=0,dl_vlan=0,nw_tos=0,nw_proto=17\n\n\
+         asked\n"
+    ));
+    for line in ["verdict fabric 2", "audit fabric"] {
+        let answer = answered(&folder, &format!("{line} --json"));
+        let rows = answer.get("targets").and_then(Value::list);
+        let path = rows.map_or(&answer, |rows| &rows[1]).get("path");
+        let path = path.and_then(Value::list).unwrap().iter();
+        let transfers: Vec<_> = path.filter_map(|hop| hop.get("transfer")?.text()).collect();
+        assert_eq!(transfers, ["none", "swap", "copy"]);
+    }
+    let picture = ran(&folder, "dot fabric 2");
+    for label in [
+        "11 -> 12 [label=\"hop 2: entry 1 (swap set tp_src=53)\"",
+        "13 -> 2 [label=\"hop 3: entry 2 (copy)\"",
+        "13 -> drop_13 [label=\"3 (swap)\"",
+    ] {
+        assert!(picture.text().contains(label), "{label}");
+    }
 }
 
 /// A drop copies or swaps too: the header then says so.

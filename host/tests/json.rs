@@ -36,7 +36,7 @@ fn examples(page: &str) -> Vec<(Vec<&str>, Value)> {
 }
 
 /// The page's fabrics, in order.
-const FABRICS: [&str; 2] = ["volumes", "tied"];
+const FABRICS: [&str; 3] = ["volumes", "tied", "replies"];
 
 #[test]
 fn the_pages_examples_are_what_is_printed() {

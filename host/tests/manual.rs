@@ -188,6 +188,21 @@ fn the_help_says_who_takes_a_packet() {
     assert!(!help.contains("of equals the first"));
 }
 
+/// And what stands behind a match.
+#[test]
+fn the_help_says_what_entries_do_to_headers() {
+    for line in ["--help", "help pack", "man"] {
+        let said = printed(line).replace('\n', " ");
+        assert!(
+            said.contains(" match nw_dst=10.0.0.80 swap set nw_tos=4 "),
+            "{line}"
+        );
+        let order = "may have copy, which copies nw_src over nw_dst, or swap, which swaps them, \
+                     and then set, which writes fields: in this order.";
+        assert!(said.contains(order), "{line}");
+    }
+}
+
 /// No line is too long for a terminal.
 #[test]
 fn lines_are_short() {

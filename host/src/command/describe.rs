@@ -3,6 +3,7 @@
 use std::fmt::Write;
 
 use super::loaded::Loaded;
+use crate::action::Transfer;
 use crate::field::Field;
 use crate::header::{Header, HeaderSet};
 use crate::record::Entry;
@@ -18,7 +19,8 @@ pub(super) fn packet(header: &Header) -> String {
 }
 
 /// Hop by hop, each entry with its ports, match and rewrite, and which others
-/// might have taken the packet.
+/// might have taken the packet. Where addresses are copied or swapped before the
+/// rewrite, also what the header becomes.
 pub(super) fn path(loaded: &Loaded, way: &[Hop]) -> String {
     let hops = way.iter().zip(1..);
     hops.map(|(hop, place)| one_hop(loaded, place, hop))
@@ -40,11 +42,20 @@ fn one_hop(loaded: &Loaded, place: usize, hop: &Hop) -> String {
         Some(others) => format!("; {others}"),
         None => String::new(),
     };
+    let (first, then) = match entry.transfer {
+        Transfer::None => (String::new(), String::new()),
+        transfer => (
+            format!("    first   {transfer}\n"),
+            format!("    becomes {}\n", entry.action_on(&hop.header)),
+        ),
+    };
     format!(
         "  hop {place}: in at port {in_port}, {onward}\n    \
          entry {}, priority {}{too}\n    \
-         match   {}\n    \
-         rewrite {}\n",
+         match   {}\n\
+         {first}    \
+         rewrite {}\n\
+         {then}",
         hop.number,
         entry.priority,
         entry.matching,

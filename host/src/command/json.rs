@@ -165,6 +165,7 @@ pub(super) fn path(way: &[Hop]) -> Json {
             ("out_port", number(entry.out_port)),
             ("priority", number(entry.priority)),
             ("match", set(&entry.matching)),
+            ("transfer", text(entry.transfer.name())),
             ("rewrite", in_words(&entry.rewrite, &rewrite(entry))),
             ("equals", numbers(&hop.equals())),
         ])

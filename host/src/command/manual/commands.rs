@@ -66,7 +66,8 @@ pub(super) const ALL: &[Command] = &[
              its way hop by hop. 'isolated:' begins the answer only if every IPv4 header and \
              16 hops were asked about; else it begins 'isolated, but only'.",
             "Where other entries of the same priority might take the packet too, the way shown \
-             is one choice, and those entries stand beside the one that takes it.",
+             is one choice, and those entries stand beside the one that takes it. Where an entry \
+             copies or swaps addresses, what the header becomes stands below it.",
             "For a mount use gate, which can't be asked less.",
         ],
         statuses: &[

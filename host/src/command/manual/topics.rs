@@ -48,8 +48,11 @@ A text has a line for each edge, link and entry, and # before a remark:
   link 10 -> 11
   entry 1 -> 10 priority 20 match nw_dst=10.0.0.2,nw_proto=tcp,tp_dst=80
   entry 11 -> 12 priority 1 match any set dl_vlan=5
+  entry 11 -> 12 priority 7 match nw_dst=10.0.0.80 swap set nw_tos=4
   name 12 storage-a
   switch leaf-1 1 10 12
+Behind its match an entry may have copy, which copies nw_src over nw_dst, or
+swap, which swaps them, and then set, which writes fields: in this order.
 A switch reads tp_src and tp_dst only beside nw_proto. Of the entries at an in-
 port that match, one of the highest priority takes the packet: any, if there are
 several, wherever they stand. Ports are 1 to 4095. At most 64 edges, 256 links,
