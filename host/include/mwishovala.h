@@ -26,6 +26,10 @@
  * every choice. 'Reached' and each find show one choice, so a packet run of the
  * same header may stop with fate 4, which says that there is a choice to make.
  *
+ * Addresses: before it rewrites, an entry may copy nw_src over nw_dst or swap the
+ * two. Bits 31..28 of its second word say which, 1 or 2; with 0 it does neither,
+ * and a value above 2 gets number 3.
+ *
  * The care and value words are the asked header set; for a run, the packet's
  * header, with every care bit set. A header has four words: nw_src; nw_dst;
  * tp_src (high 16 bits) and tp_dst; dl_vlan (high 16), nw_tos (8), nw_proto.
