@@ -50,7 +50,7 @@ extern "C" {
 /* The least stack of a thread that makes calls. */
 #define FABRIC_STACK_BYTES (512 * 1024)
 
-/* Which library this is: "mwishovala 0.2.0, commit 0123456789ab", with -dirty
+/* Which library this is: "mwishovala 0.3.0, commit 0123456789ab", with -dirty
  * behind a commit that isn't all, or unknown in its place. */
 extern const char mwishovala_version[];
 
