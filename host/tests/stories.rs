@@ -55,6 +55,11 @@ fn ties_that_do_no_harm() {
 }
 
 #[test]
+fn a_reply_goes_to_a_forged_source() {
+    tell("reply-swap");
+}
+
+#[test]
 fn beaters_attribute_by_attribute() {
     tell("trap-attributes");
 }
@@ -105,5 +110,5 @@ fn all_are_told() {
         path.extension()
             .is_some_and(|extension| extension == "session")
     });
-    assert_eq!(sessions.count(), 9);
+    assert_eq!(sessions.count(), 10);
 }
