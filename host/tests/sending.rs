@@ -78,6 +78,40 @@ fn a_packet_that_can_be_sent_stands_alone() {
     assert_eq!(answer.get("misfits"), Some(&Value::List(vec![])));
 }
 
+/// The same find, traced back through a copy, a rewrite and a swap.
+#[test]
+fn what_can_be_sent_where_addresses_are_swapped() {
+    let folder = with(
+        "swapped-instead",
+        &format!(
+            "{EDGES}link 10 -> 11\nlink 20 -> 21\n\
+             entry 1 -> 10 priority 1 match nw_dst=10.0.0.80,tp_dst=80 swap\n\
+             entry 1 -> drop priority 2 match nw_src=10.7.0.0/24\n\
+             entry 11 -> 20 priority 1 match nw_dst=10.7.0.0/16 copy set nw_src=10.7.0.9\n\
+             entry 21 -> 2 priority 1 match any\n"
+        ),
+    );
+    let asked = "--asked nw_src=10.7.0.9,nw_dst=10.0.0.80";
+    let answer = answered(&folder, &format!("verdict fabric 2 {asked} --json"));
+    let address = |header, field| answer.at(&[header, field]).and_then(Value::text);
+    for header in ["header", "sendable"] {
+        assert_eq!(address(header, "nw_src"), Some("10.7.128.0"));
+        assert_eq!(address(header, "nw_dst"), Some("10.0.0.80"));
+    }
+    let protocol = |header| answer.at(&[header, "nw_proto"]);
+    assert_eq!(protocol("header"), Some(&Value::Number(0)));
+    assert_eq!(protocol("sendable"), Some(&Value::Number(6)));
+    let sent = in_words(answer.get("sendable").unwrap());
+    let run = answered(&folder, &format!("run fabric 1 {sent} --json"));
+    assert_eq!(run.get("fate").and_then(Value::text), Some("left"));
+    assert_eq!(run.get("port"), Some(&Value::Number(2)));
+    let left_with = |field| run.at(&["header", field]).and_then(Value::text);
+    assert_eq!(
+        ["nw_src", "nw_dst"].map(left_with),
+        [Some("10.7.0.9"), Some("10.0.0.80")]
+    );
+}
+
 /// Whatever the fabric, the packet that can be sent gets out at the target; or
 /// its run stops at the first hop where others might take it, as is said.
 #[test]

@@ -173,6 +173,60 @@ fn a_rewrite_makes_entries_tie_two_hops_on() {
     ));
 }
 
+/// After the swap nw_src is 10.0.0.80, and after the copy nw_dst too: those that
+/// want something else there are of the same priority, but never take the packet.
+#[test]
+fn copies_and_swaps_decide_who_else_might_take_a_packet() {
+    let folder = with(
+        "replies",
+        "link 10 -> 11\nlink 20 -> 21\n\
+         entry 1 -> 10 priority 5 match nw_dst=10.0.0.80 swap\n\
+         entry 11 -> 20 priority 5 match any copy\n\
+         entry 11 -> drop priority 5 match nw_src=10.0.0.80\n\
+         entry 11 -> drop priority 5 match nw_src=10.0.0.81\n\
+         entry 21 -> 2 priority 5 match any\n\
+         entry 21 -> drop priority 5 match nw_dst=10.0.0.0\n\
+         entry 21 -> drop priority 5 match nw_dst=10.0.0.80\n",
+    );
+    let expected = [vec![], vec![2], vec![6]];
+    let verdict = answered(&folder, "verdict fabric 2 --json");
+    assert_eq!(equals_of_path(&verdict), expected);
+    let list = answered(&folder, "list fabric 2 --json");
+    assert_eq!(equals_of_first(&list), expected);
+}
+
+/// What is copied may be anything, but it stands in both addresses then.
+#[test]
+fn a_copy_makes_both_addresses_one() {
+    let folder = with(
+        "copied",
+        "link 10 -> 11\n\
+         entry 1 -> 10 priority 5 match any copy\n\
+         entry 11 -> 2 priority 5 match any\n\
+         entry 11 -> drop priority 5 match nw_src=10.0.0.1,nw_dst=10.0.0.2\n\
+         entry 11 -> drop priority 5 match nw_src=10.0.0.0/8,nw_dst=10.0.0.2\n",
+    );
+    let list = answered(&folder, "list fabric 2 --json");
+    assert_eq!(equals_of_first(&list), [vec![], vec![3]]);
+}
+
+/// Two entries with one out-port and one rewrite, of which one swaps before it.
+#[test]
+fn who_swaps_does_not_do_the_same() {
+    let folder = with(
+        "same",
+        "entry 1 -> 2 priority 5 match any swap set nw_tos=4\n\
+         entry 1 -> 2 priority 5 match any set nw_tos=4\n\
+         entry 1 -> 2 priority 5 match nw_proto=udp swap set nw_tos=4\n",
+    );
+    let answer = answered(&folder, "audit fabric --json");
+    let pairs = numbers_of_each(&answer, "ties", "entries");
+    assert_eq!(pairs, [[0, 1], [0, 2], [1, 2]]);
+    let ties = answer.get("ties").and_then(Value::list).unwrap();
+    let same: Vec<&Value> = ties.iter().filter_map(|tie| tie.get("same")).collect();
+    assert_eq!(same, [false, true, false].map(Value::Truth).each_ref());
+}
+
 /// In a list a find may be of many headers, of which others might take some.
 #[test]
 fn a_list_tells_choices() {

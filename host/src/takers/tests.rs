@@ -20,8 +20,12 @@ const TWO_SWITCHES: &str = "
 ";
 
 fn exit(port: u16, tp_dst: u32, way: &[u16]) -> Option<(u16, [u32; 4])> {
-    let fabric = Fabric::read(&text::pack(TWO_SWITCHES).unwrap()).unwrap();
-    let exit = fabric.exit_by(port, &Header([1, 2, tp_dst, 0]), way);
+    exit_of(TWO_SWITCHES, port, [1, 2, tp_dst, 0], way)
+}
+
+fn exit_of(said: &str, port: u16, header: [u32; 4], way: &[u16]) -> Option<(u16, [u32; 4])> {
+    let fabric = Fabric::read(&text::pack(said).unwrap()).unwrap();
+    let exit = fabric.exit_by(port, &Header(header), way);
     exit.map(|(port, header)| (port, header.0))
 }
 
@@ -29,6 +33,24 @@ fn exit(port: u16, tp_dst: u32, way: &[u16]) -> Option<(u16, [u32; 4])> {
 fn by_any_choice() {
     assert_eq!(exit(1, 0, &[0, 3]), Some((2, [1, 2, 80, 9 << 16])));
     assert_eq!(exit(1, 0, &[0, 4]), Some((3, [1, 2, 80, 0])));
+}
+
+/// Each entry sees the header as those before it left it.
+#[test]
+fn addresses_swapped_and_copied() {
+    let exit = |nw_src, way: &[u16]| {
+        let said = "
+            link 10 -> 11
+            entry 1 -> 10 priority 5 match nw_dst=0.0.0.2 swap set tp_dst=80
+            entry 11 -> 2 priority 5 match nw_src=0.0.0.2,nw_dst=0.0.0.1 copy set nw_src=0.0.0.9
+            entry 11 -> 3 priority 5 match nw_dst=0.0.0.2
+        ";
+        exit_of(said, 1, [nw_src, 2, 3, 4], way)
+    };
+    assert_eq!(exit(1, &[0, 1]), Some((2, [9, 2, 80, 4])));
+    assert_eq!(exit(1, &[0, 2]), None);
+    assert_eq!(exit(2, &[0, 2]), Some((3, [2, 2, 80, 4])));
+    assert_eq!(exit(2, &[0, 1]), None);
 }
 
 #[test]
