@@ -117,7 +117,7 @@ fn what_can_be_sent_where_addresses_are_swapped() {
 #[test]
 fn what_can_be_sent_arrives() {
     let folder = folder("sent");
-    let (sent, stopped) = (Cell::new(0), Cell::new(0));
+    let (sent, stopped, moved) = (Cell::new(0), Cell::new(0), Cell::new(0));
     cases(9_400_000, 300, |rng| {
         let fabric = any(rng);
         let (port, answer) = judged(&folder, &fabric, rng);
@@ -129,6 +129,9 @@ fn what_can_be_sent_arrives() {
             let line = format!("run fabric {start} {} --json", in_words(header));
             let run = answered(&folder, &line);
             let fate = run.get("fate").and_then(Value::text);
+            let path = answer.get("path").and_then(Value::list).unwrap();
+            let stays = |hop: &Value| hop.get("transfer").and_then(Value::text) == Some("none");
+            moved.set(moved.get() + u32::from(!path.iter().all(stays)));
             let equals = answer.get("sendable_equals").and_then(Value::list).unwrap();
             let choice = equals.iter().position(|at| *at != Value::List(vec![]));
             match choice {
@@ -149,7 +152,7 @@ fn what_can_be_sent_arrives() {
     });
     // A replayed case is one alone.
     let replayed = std::env::var_os("SEED").is_some();
-    assert!(replayed || sent.get() > 20 && stopped.get() > 5);
+    assert!(replayed || sent.get() > 20 && stopped.get() > 5 && moved.get() > 5);
 }
 
 /// The packet that can be sent may meet others than the verdict's does.

@@ -408,12 +408,12 @@ fn takers(fabric: &Fabric, in_port: u16, header: u128) -> Vec<u64> {
     takers.map(|number| number as u64).collect()
 }
 
-/// A verdict's JSON tells at each hop the other takers and nobody else; and a
-/// run's, those between which it stops.
+/// A verdict's JSON tells at each hop the entry's transfer, the other takers and
+/// nobody else; and a run's, those between which it stops.
 #[test]
 fn equals_are_the_other_takers() {
     let folder = folder("equals-random");
-    let (chosen, alone) = (Cell::new(0), Cell::new(0));
+    let (chosen, alone, moved) = (Cell::new(0), Cell::new(0), Cell::new(0));
     cases(13_400_000, 300, |rng| {
         let fabric = tied_fabric(rng);
         let (_, answer) = judged(&folder, &fabric, rng);
@@ -434,7 +434,10 @@ fn equals_are_the_other_takers() {
             if takers.len() > 1 {
                 first_choice = first_choice.or(Some(takers));
             }
-            here = entry.rewrite.apply(here);
+            here = entry.apply(here);
+            let transfer = ["none", "copy", "swap"][entry.transfer as usize];
+            assert_eq!(hop.get("transfer").and_then(Value::text), Some(transfer));
+            moved.set(moved.get() + u32::from(transfer != "none"));
         }
         let start = answer.get("port").and_then(Value::number).unwrap();
         let run = format!("run fabric {start} {} --json", in_words(header));
@@ -442,7 +445,7 @@ fn equals_are_the_other_takers() {
         assert_eq!(tied, first_choice.unwrap_or_default());
     });
     let replayed = std::env::var_os("SEED").is_some();
-    assert!(replayed || chosen.get() > 30 && alone.get() > 30);
+    assert!(replayed || chosen.get() > 30 && alone.get() > 30 && moved.get() > 30);
 }
 
 /// A header's 128 bits, from its fields.
