@@ -8,7 +8,7 @@ use std::collections::BTreeSet;
 
 use common::to_host;
 use mwishovala::{list_growing, run, text, verdict, Entry, Fabric, Fate, Find, Header};
-use mwishovala::{Equals, HeaderSet, Tie, Verdict};
+use mwishovala::{Equals, HeaderSet, Tie, Transfer, Verdict};
 use reference::file::write;
 use reference::random::{any, cases, dead_ends, query, small, small_ring, ties, Rng, Small};
 use reference::set::{from_words, to_words};
@@ -34,7 +34,7 @@ fn takers_along(fabric: &reference::Fabric, header: u128, way: &[u16]) -> Vec<Ve
     let takers = way.iter().map(|&number| {
         let entry = &fabric.entries[usize::from(number)];
         let takers = takers(fabric, entry.in_port, here);
-        here = entry.rewrite.apply(here);
+        here = entry.apply(here);
         takers
     });
     takers.collect()
@@ -66,7 +66,7 @@ fn holds(set: &HeaderSet, header: u128) -> bool {
 /// In a find stands who might take all or some of its packets, and nobody else.
 #[test]
 fn equals_of_finds() {
-    let (chosen, alone) = (Cell::new(0), Cell::new(0));
+    let (chosen, alone, moved) = (Cell::new(0), Cell::new(0), Cell::new(0));
     cases(13_000_000, 3000, |rng| {
         let Small { fabric, bits } = small_fabric(rng);
         let (file, asked) = (write(&fabric), to_host(&query(rng, &fabric, 20_000)));
@@ -77,6 +77,10 @@ fn equals_of_finds() {
         let read = Fabric::read(&file).unwrap();
         let equals = Equals::of(&read);
         for find in finds.take(40) {
+            let transfer = |number: &u16| read.entries[usize::from(*number)].transfer;
+            let mut transfers = find.entries.iter().map(transfer);
+            moved
+                .set(moved.get() + u32::from(transfers.any(|transfer| transfer != Transfer::None)));
             let told = equals.along(&find);
             assert_eq!(told, equals_by_the_rule(&fabric, &bits, &find));
             for equals in told {
@@ -86,7 +90,7 @@ fn equals_of_finds() {
         }
     });
     let replayed = std::env::var_os("SEED").is_some();
-    assert!(replayed || chosen.get() > 1000 && alone.get() > 1000);
+    assert!(replayed || chosen.get() > 1000 && alone.get() > 1000 && moved.get() > 1000);
 }
 
 /// Bits that no entry cares for don't count: where the find is wild they are 0.
@@ -208,7 +212,7 @@ fn check_tie(fabric: &reference::Fabric, read: &Fabric, tie: &Tie) {
     let [one, other] = tie.entries.map(|number| &read.entries[usize::from(number)]);
     assert_eq!([one.in_port, other.in_port], [tie.in_port; 2]);
     assert_eq!([one.priority, other.priority], [tie.priority; 2]);
-    let does = |entry: &Entry| (entry.out_port, entry.rewrite);
+    let does = |entry: &Entry| (entry.out_port, entry.transfer, entry.rewrite);
     assert_eq!(tie.same, does(one) == does(other));
     let header = tie.header.expect("a small fabric has few parts");
     let takers = takers(fabric, tie.in_port, from_words(header.0));

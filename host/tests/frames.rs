@@ -8,7 +8,8 @@ use std::cell::Cell;
 use common::to_host;
 use mwishovala::frame::{instead, misfits, sendable_in};
 use mwishovala::{list_growing, run, text, verdict};
-use mwishovala::{Entry, Fabric, Fate, Field, Find, Header, HeaderSet, Query, Verdict};
+use mwishovala::{Entry, Fabric, Fate, Field, Find, Header, HeaderSet, Query};
+use mwishovala::{Transfer, Verdict};
 use reference::file::write;
 use reference::random::{any, cases, query, Rng};
 
@@ -150,10 +151,7 @@ fn followed(fabric: &Fabric, port: u16, header: Header, way: &[u16]) -> Option<(
         if !here(&entry) || Some(entry.priority) != highest {
             return None;
         }
-        let (mask, written) = (entry.rewrite.care, entry.rewrite.value);
-        header = Header(std::array::from_fn(|word| {
-            header.0[word] & !mask[word] | written[word]
-        }));
+        header = done_by(entry, header);
         port = fabric
             .link_from(entry.out_port)
             .map_or(entry.out_port, |link| link.to);
@@ -161,12 +159,27 @@ fn followed(fabric: &Fabric, port: u16, header: Header, way: &[u16]) -> Option<(
     Some((port, header))
 }
 
+/// Copied or swapped, and then rewritten.
+fn done_by(entry: &Entry, header: Header) -> Header {
+    let [nw_src, nw_dst, ports, others] = header.0;
+    let (nw_src, nw_dst) = match entry.transfer {
+        Transfer::None => (nw_src, nw_dst),
+        Transfer::Copy => (nw_src, nw_src),
+        Transfer::Swap => (nw_dst, nw_src),
+    };
+    let words = [nw_src, nw_dst, ports, others];
+    let (mask, written) = (entry.rewrite.care, entry.rewrite.value);
+    Header(std::array::from_fn(|word| {
+        words[word] & !mask[word] | written[word]
+    }))
+}
+
 /// The find of a verdict's packet is the list's, and what can be sent of it
 /// may take the same way to the target and is foreign. The run of it goes the
 /// same way as far as there is no choice.
 #[test]
 fn finds_and_what_to_send_instead() {
-    let (sent, tied) = (Cell::new(0), Cell::new(0));
+    let (sent, tied, moved) = (Cell::new(0), Cell::new(0), Cell::new(0));
     cases(12_600_000, 4000, |rng| {
         let made = any(rng);
         let file = write(&made);
@@ -196,6 +209,10 @@ fn finds_and_what_to_send_instead() {
             assert!(set.contains(&header) && is_sendable(&header));
             let (exit, left_with) = followed(&fabric, port, header, &entries).unwrap();
             assert!(u32::from(exit) == asked.port && asked.asked.contains(&left_with));
+            let transfer = |number: &u16| fabric.entries[usize::from(*number)].transfer;
+            let mut transfers = entries.iter().map(transfer);
+            moved
+                .set(moved.get() + u32::from(transfers.any(|transfer| transfer != Transfer::None)));
             let way = run(&file, port.into(), header, asked.hops).unwrap();
             match way.fate {
                 Fate::Tied => {
@@ -212,7 +229,7 @@ fn finds_and_what_to_send_instead() {
         }
     });
     let replayed = std::env::var_os("SEED").is_some();
-    assert!(replayed || sent.get() > 200 && tied.get() > 20);
+    assert!(replayed || sent.get() > 200 && tied.get() > 20 && moved.get() > 50);
 }
 
 /// In its own group a packet has to be outside what is admitted; where all that
