@@ -6,9 +6,9 @@ mod common;
 use std::cell::Cell;
 use std::collections::BTreeSet;
 
-use common::to_host;
+use common::{to_host, transfers, Seen};
 use mwishovala::{list_growing, run, text, verdict, Entry, Fabric, Fate, Find, Header};
-use mwishovala::{Equals, HeaderSet, Tie, Transfer, Verdict};
+use mwishovala::{Equals, HeaderSet, Tie, Verdict};
 use reference::file::write;
 use reference::random::{any, cases, dead_ends, query, small, small_ring, ties, Rng, Small};
 use reference::set::{from_words, to_words};
@@ -66,7 +66,7 @@ fn holds(set: &HeaderSet, header: u128) -> bool {
 /// In a find stands who might take all or some of its packets, and nobody else.
 #[test]
 fn equals_of_finds() {
-    let (chosen, alone, moved) = (Cell::new(0), Cell::new(0), Cell::new(0));
+    let (chosen, alone, moved) = (Cell::new(0), Cell::new(0), Seen::default());
     cases(13_000_000, 3000, |rng| {
         let Small { fabric, bits } = small_fabric(rng);
         let (file, asked) = (write(&fabric), to_host(&query(rng, &fabric, 20_000)));
@@ -77,10 +77,7 @@ fn equals_of_finds() {
         let read = Fabric::read(&file).unwrap();
         let equals = Equals::of(&read);
         for find in finds.take(40) {
-            let transfer = |number: &u16| read.entries[usize::from(*number)].transfer;
-            let mut transfers = find.entries.iter().map(transfer);
-            moved
-                .set(moved.get() + u32::from(transfers.any(|transfer| transfer != Transfer::None)));
+            moved.add(transfers(&fabric, &find.entries).into());
             let told = equals.along(&find);
             assert_eq!(told, equals_by_the_rule(&fabric, &bits, &find));
             for equals in told {
@@ -90,7 +87,8 @@ fn equals_of_finds() {
         }
     });
     let replayed = std::env::var_os("SEED").is_some();
-    assert!(replayed || chosen.get() > 1000 && alone.get() > 1000 && moved.get() > 1000);
+    assert!(replayed || chosen.get() > 1000 && alone.get() > 1000);
+    moved.at_least(1000);
 }
 
 /// Bits that no entry cares for don't count: where the find is wild they are 0.

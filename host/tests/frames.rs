@@ -5,13 +5,14 @@ mod common;
 
 use std::cell::Cell;
 
-use common::to_host;
+use common::{to_host, transfers, Seen};
 use mwishovala::frame::{instead, misfits, sendable_in};
 use mwishovala::{list_growing, run, text, verdict};
-use mwishovala::{Entry, Fabric, Fate, Field, Find, Header, HeaderSet, Query};
-use mwishovala::{Transfer, Verdict};
+use mwishovala::{Fabric, Fate, Field, Find, Header, HeaderSet, Query, Verdict};
 use reference::file::write;
 use reference::random::{any, cases, query, Rng};
+use reference::set::from_words;
+use reference::ways::Packet;
 
 fn lowest(set: &str) -> Header {
     set.parse::<HeaderSet>().unwrap().lowest()
@@ -140,53 +141,20 @@ fn headers_of(set: &HeaderSet) -> Vec<Header> {
     (0..1 << wild.len()).map(with).collect()
 }
 
-/// Where a packet leaves by this way, and with which header, if every entry on it
-/// may take the packet: it matches, and none of a higher priority does.
-fn followed(fabric: &Fabric, port: u16, header: Header, way: &[u16]) -> Option<(u16, Header)> {
-    let (mut port, mut header) = (port, header);
-    for &number in way {
-        let entry = &fabric.entries[usize::from(number)];
-        let here = |other: &&Entry| other.in_port == port && other.matching.contains(&header);
-        let highest = fabric.entries.iter().filter(here).map(|e| e.priority).max();
-        if !here(&entry) || Some(entry.priority) != highest {
-            return None;
-        }
-        header = done_by(entry, header);
-        port = fabric
-            .link_from(entry.out_port)
-            .map_or(entry.out_port, |link| link.to);
-    }
-    Some((port, header))
-}
-
-/// Copied or swapped, and then rewritten.
-fn done_by(entry: &Entry, header: Header) -> Header {
-    let [nw_src, nw_dst, ports, others] = header.0;
-    let (nw_src, nw_dst) = match entry.transfer {
-        Transfer::None => (nw_src, nw_dst),
-        Transfer::Copy => (nw_src, nw_src),
-        Transfer::Swap => (nw_dst, nw_src),
-    };
-    let words = [nw_src, nw_dst, ports, others];
-    let (mask, written) = (entry.rewrite.care, entry.rewrite.value);
-    Header(std::array::from_fn(|word| {
-        words[word] & !mask[word] | written[word]
-    }))
-}
-
 /// The find of a verdict's packet is the list's, and what can be sent of it
 /// may take the same way to the target and is foreign. The run of it goes the
 /// same way as far as there is no choice.
 #[test]
 fn finds_and_what_to_send_instead() {
-    let (sent, tied, moved) = (Cell::new(0), Cell::new(0), Cell::new(0));
+    let [sent, tied, moved]: [Seen; 3] = Default::default();
     cases(12_600_000, 4000, |rng| {
         let made = any(rng);
         let file = write(&made);
-        let asked = to_host(&reference::Query {
+        let query = reference::Query {
             budget: 20_000,
             ..query(rng, &made, 1)
-        });
+        };
+        let asked = to_host(&query);
         let Ok(Verdict::Reached {
             port,
             header,
@@ -207,29 +175,34 @@ fn finds_and_what_to_send_instead() {
         }
         if let Some(header) = instead(&file, &asked, &reached) {
             assert!(set.contains(&header) && is_sendable(&header));
-            let (exit, left_with) = followed(&fabric, port, header, &entries).unwrap();
-            assert!(u32::from(exit) == asked.port && asked.asked.contains(&left_with));
-            let transfer = |number: &u16| fabric.entries[usize::from(*number)].transfer;
-            let mut transfers = entries.iter().map(transfer);
-            moved
-                .set(moved.get() + u32::from(transfers.any(|transfer| transfer != Transfer::None)));
+            let packet = Packet {
+                fabric: &made,
+                start: port,
+                header: from_words(header.0),
+                limit: query.limit,
+            };
+            let numbers: Vec<u32> = entries.iter().map(|&entry| entry.into()).collect();
+            let followed = packet.follow(&numbers).expect("each entry may take it");
+            assert!(followed.arrives(&query));
+            moved.add(transfers(&made, &entries).into());
             let way = run(&file, port.into(), header, asked.hops).unwrap();
             match way.fate {
                 Fate::Tied => {
                     assert!(way.entries.len() < entries.len());
                     assert!(entries.starts_with(&way.entries));
-                    tied.set(tied.get() + 1);
+                    tied.add(1);
                 }
                 _ => assert_eq!((way.fate, way.entries), (Fate::Left, entries)),
             }
             let (edge, target) = (fabric.edge(port).unwrap(), asked.port as u16);
             let own = edge.group == fabric.edge(target).unwrap().group;
             assert!(!own || !edge.admitted.contains(&header));
-            sent.set(sent.get() + 1);
+            sent.add(1);
         }
     });
-    let replayed = std::env::var_os("SEED").is_some();
-    assert!(replayed || sent.get() > 200 && tied.get() > 20 && moved.get() > 50);
+    sent.at_least(200);
+    tied.at_least(20);
+    moved.at_least(50);
 }
 
 /// In its own group a packet has to be outside what is admitted; where all that
