@@ -7,7 +7,7 @@ use Rattle.headers.specs.Carving.{carve}
 use Rattle.forwarding.specs.Fabric.{Fabric, entriesWhere, beats, undoes}
 
 module _ (f : Fabric) where
-  -- "Undo the rewrite for T and intersect with the match"
+  -- T4: the action of entry e undone for t, and met with its match
   unfoldable pub back : ℕ → Set → Option Set
   back e t = bind (undoes f e t) (λ s. intersection (f .words) s (f .entry e .matches))
 

@@ -7,12 +7,12 @@ use Prim.Native.Nat.{ℕ}
 use lib.Dec.{eqb}
 use lib.ListN.{length, getD}
 use Rattle.headers.specs.Bits.{bit, bitAt, positions, those, setBits, single}
-use Rattle.headers.specs.Sets.{Header, Set, allWild, intersection, undone}
+use Rattle.headers.specs.Sets.{Header, Set, allWild, noRewrite, intersection, undone}
 use Rattle.headers.specs.Actions.{Act, noAction, unacted}
-use Rattle.headers.specs.declared.Transfer.the-variants.{Keep}
+use Rattle.headers.specs.declared.Transfer.the-variants.{Keep, Copy, Swap}
 use Rattle.headers.specs.Carving.{partsAt, parts, carve, holders}
 use Rattle.forwarding.specs.Fabric.{Entry, Fabric, holds, beats, applied, undoes}
-use Rattle.forwarding.specs.Run.{Packet, left, dropped, travelling, tied, unbeaten, takes, takers, hop, run}
+use Rattle.forwarding.specs.Run.{Packet, left, dropped, lost, travelling, tied, unbeaten, takes, takers, hop, run}
 use Rattle.forwarding.specs.Run.{fateOf, portOf, headerOf, takenBy, hopsMade}
 use Rattle.forwarding.specs.BackTrace.{back, beaters, survivors, backTraced}
 use Rattle.forwarding.specs.Trace.{unit, find, carved, atInPort, takenUp, stop, trace}
@@ -138,6 +138,47 @@ two-hops = refl
 one-hop : run twoHops 1 1 (header 0 0 22 0) ≡ travelling 4 (header 0 0 5 0) (0 ∷ [])
 unfolding computing
 one-hop = refl
+
+-- ---- copies and swaps
+
+-- from this address, and to that one
+abbrev fromTo : ℕ → ℕ → Set
+fromTo src dst = set (header 0xffffffff 0xffffffff 0 0) (header src dst 0 0)
+
+-- entry 0 swaps and sends from edge port 1 over the link, behind which entry 1 takes what is then from 9 to 7 to edge port 2
+abbrev swapping : Fabric
+swapping = linked 3 4
+    (entryOf 10 1 3 (allWild 4) (record { transfer = Swap; rewrite = noRewrite 4 })
+    ∷ entryOf 10 4 2 (fromTo 9 7) (noAction 4)
+    ∷ [])
+
+swap-back : trace swapping 2 2 (allWild 4) ≡ unit ∷ unit ∷ find (record { port = 1; path = 0 ∷ 1 ∷ []; set = fromTo 7 9 }) ∷ []
+unfolding computing
+swap-back = refl
+
+swap-run : run swapping 2 1 (header 7 9 0 0) ≡ left 2 (header 9 7 0 0) (1 ∷ 0 ∷ [])
+unfolding computing
+swap-run = refl
+
+unswapped-lost : run swapping 2 1 (header 9 7 0 0) ≡ lost 4 (header 7 9 0 0) (0 ∷ [])
+unfolding computing
+unswapped-lost = refl
+
+-- an entry that copies: two wants that agree, and two that don't
+abbrev copying : Fabric
+copying = fabric (entryOf 10 1 2 (allWild 4) (record { transfer = Copy; rewrite = noRewrite 4 }) ∷ [])
+
+copy-back : backTraced copying 0 (fromTo 7 7) ≡ set (header 0xffffffff 0 0 0) (header 7 0 0 0) ∷ []
+unfolding computing
+copy-back = refl
+
+copy-disagrees : backTraced copying 0 (fromTo 7 9) ≡ []
+unfolding computing
+copy-disagrees = refl
+
+copy-run : run copying 1 1 (header 7 9 0 0) ≡ left 2 (header 7 7 0 0) (0 ∷ [])
+unfolding computing
+copy-run = refl
 
 -- ---- equal priorities
 

@@ -37,7 +37,7 @@ module _ (f : Fabric) where
   atInPort next x path p =
       cond (f .isEdge x) (find (record { port = x; path = path; set = p }) ∷ []) (fromPort next (f .linkFrom x) path p)
 
-  -- "taken up .. one unit each. Undo the rewrite for T and intersect with the match; if empty, next entry. Carve by the entries that beat it"
+  -- T3 to T5: taken up, one unit; its action undone for T and met with the match; if empty, next entry; carved by the entries that beat it
   unfoldable pub takenUp : (ℕ → Set → List ℕ → List Event) → Set → List ℕ → ℕ → List Event
   takenUp next t path e =
       unit ∷ Option·elim (back f e t) [] (carved (atInPort next (inPortOf f e) (e ∷ path)) (beaters f e))
