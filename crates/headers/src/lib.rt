@@ -278,20 +278,20 @@ impl Action {
         ensures { λ r. ⌜ r ≡ maybeOf (before 4 (setOf matching) (actOf self) (setOf t)) ⌝ }
     {
         let transfer = self.transfer;
-        let rewritten = self.unwritten(t);
-        if !rewritten.some {
-            return rewritten;
+        let unwritten = self.unwritten(t);
+        if !unwritten.some {
+            return unwritten;
         }
-        let s = rewritten.set;
+        let s = unwritten.set;
         // the usual case by itself, which the compiler makes vector code of
         if let Transfer::Keep = transfer {
             return s.intersect(matching);
         }
-        let transferred = s.untransferred(transfer);
-        if !transferred.some {
-            return transferred;
+        let untransferred = s.untransferred(transfer);
+        if !untransferred.some {
+            return untransferred;
         }
-        let s = transferred.set;
+        let s = untransferred.set;
         s.intersect(matching)
     }
 
