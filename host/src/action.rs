@@ -13,6 +13,7 @@ use crate::record::Entry;
 /// What an entry does with nw_src and nw_dst, a header's first two words, before
 /// it rewrites. The numbers are the file's.
 #[derive(Clone, Copy, Debug, Default, PartialEq, Eq, Hash)]
+#[non_exhaustive]
 pub enum Transfer {
     /// Nothing.
     #[default]

@@ -98,9 +98,10 @@ fn record(words: Words, place: usize) -> String {
         format!("{name} has {length} words, but only {left} are left")
     } else if kind == END && left > 1 {
         format!("an end, but the file goes on for {} more words", left - 1)
+    } else if let (ENTRY, Some(wrong)) = (kind, wrong_transfer(words, place)) {
+        wrong
     } else {
-        let transfer = wrong_transfer(words, place).filter(|_| kind == ENTRY);
-        transfer.unwrap_or_else(|| format!("{name} with bits set that have to be zero"))
+        format!("{name} with bits set that have to be zero")
     }
 }
 

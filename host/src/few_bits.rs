@@ -5,8 +5,7 @@ use crate::header::{Header, HeaderSet};
 use crate::record::Entry;
 
 /// Two bits of each address, and one of neither.
-pub(crate) const BITS: [(usize, u32); 5] =
-    [(0, 1 << 31), (0, 2), (1, 1 << 31), (1, 2), (3, 1 << 7)];
+const BITS: [(usize, u32); 5] = [(0, 1 << 31), (0, 2), (1, 1 << 31), (1, 2), (3, 1 << 7)];
 
 /// Every header whose other bits are 0.
 pub(crate) fn headers() -> impl Iterator<Item = Header> {

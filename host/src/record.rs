@@ -143,7 +143,7 @@ fn port_alone(word: u32) -> Option<u16> {
 
 const PORT_BITS: u32 = 0xfff;
 
-/// The number in bits 31..28 of an entry's second word: its transfer's, or none's.
+/// The number in bits 31..28 of an entry's second word. Not each is a transfer's.
 pub(crate) fn transfer_number(second: u32) -> u32 {
     second >> 28
 }
