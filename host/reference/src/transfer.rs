@@ -17,7 +17,7 @@ pub enum Transfer {
 }
 
 impl Transfer {
-    /// The transfer of this number; "values above 2" are none's.
+    /// The transfer of this number, if there is one: "values above 2" are refused.
     pub fn numbered(number: u32) -> Option<Transfer> {
         let all = [Transfer::None, Transfer::Copy, Transfer::Swap];
         all.into_iter().find(|&transfer| transfer as u32 == number)

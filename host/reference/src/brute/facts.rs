@@ -11,7 +11,7 @@ use crate::ternary::{self, Ternary};
 use crate::transfer::Transfer;
 use crate::ways::{holds, takers, Packet, Way, DROPPED, TIED, TRAVELLING};
 
-/// A trace with more is looked at so far.
+/// Of a trace with more, only so many are looked at.
 const MOST_EVENTS: usize = 1000;
 
 fn when(happened: bool, fact: Fact) -> Option<Fact> {

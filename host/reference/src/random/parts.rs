@@ -62,10 +62,10 @@ pub(super) fn spread_bits(rng: &mut Rng, number: usize) -> Vec<u32> {
     let mut bits: Vec<u32> = Vec::new();
     while bits.len() < number {
         let place = rng.below(32) as u32;
-        let of_src = [96 + place, 64 + place];
+        let of_addresses = [96 + place, 64 + place];
         let of_a_last_word = [bits.len() as u32 % 2 * 32 + place];
         let new = match bits.len() < addresses {
-            true => &of_src[..],
+            true => &of_addresses[..],
             false => &of_a_last_word,
         };
         if !bits.contains(&new[0]) {
