@@ -16,7 +16,7 @@ use command::ran;
 use json::Value;
 use mwishovala::text::{pack, show};
 use mwishovala::{accept, Fabric, Question, Transfer};
-use reference::file::write;
+use reference::file::{write, EDGE_WORDS, ENTRY_WORDS, LINK_WORDS};
 use reference::random::{any, cases, Rng};
 
 const TRANSFERS: [Transfer; 3] = [Transfer::None, Transfer::Copy, Transfer::Swap];
@@ -35,9 +35,14 @@ const REPLIES: &str = "\
 /// A fabric's file, and the place of each of its entries there, in words.
 fn random_file(rng: &mut Rng) -> (Vec<u8>, Vec<usize>) {
     let fabric = any(rng);
-    let first = 1 + 9 * fabric.edges.len() + fabric.links.len();
-    let places = (0..fabric.entries.len()).map(|entry| first + 18 * entry);
+    let first = first_entry(fabric.edges.len(), fabric.links.len());
+    let places = (0..fabric.entries.len()).map(|entry| first + ENTRY_WORDS * entry);
     (write(&fabric), places.collect())
+}
+
+/// The place of the first entry behind the start and so many edges and links.
+fn first_entry(edges: usize, links: usize) -> usize {
+    1 + EDGE_WORDS * edges + LINK_WORDS * links
 }
 
 /// Puts these bits into an entry's second word, in place of those of this mask.
@@ -96,6 +101,8 @@ fn what_is_no_transfer_is_refused() {
         for number in 3..16 {
             let mut changed = file.clone();
             put_transfer(&mut changed, entry, number);
+            // Of two things that are wrong, the transfer is told.
+            put(&mut changed, entry, 0, rng.one_of([0, 1 << 12, 1 << 27]));
             let why = format!(
                 "an entry with transfer {number}: 0 does nothing, \
                  1 copies nw_src over nw_dst, 2 swaps nw_src and nw_dst"
@@ -119,7 +126,7 @@ fn what_is_no_transfer_is_refused() {
 fn nothing_is_said_of_what_is_no_transfer() {
     let folder = with("no-transfer", &format!("{EDGES}{REPLIES}"));
     let whole = fs::read(folder.join("fabric")).unwrap();
-    let entry = 1 + 9 * 2 + 2;
+    let entry = first_entry(2, 2);
     for bits in [3 << 28, 8 << 28, 0xf << 28, 1 << 27, 1 << 12] {
         let mut changed = whole.clone();
         put(&mut changed, entry, 0, bits);

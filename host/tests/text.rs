@@ -167,6 +167,10 @@ fn wrong_lines() {
             "1:43: 'swap' is too much",
         ),
         (
+            "entry 1 -> 2 priority 1 match any set",
+            "1:38: a header set, or 'any', is missing",
+        ),
+        (
             "entry 1 -> 2 priority 1 match any copy set",
             "1:43: a header set, or 'any', is missing",
         ),
