@@ -27,17 +27,16 @@ fn takers(fabric: &reference::Fabric, in_port: u16, header: u128) -> Vec<u16> {
     of_highest.map(|(_, number)| *number).collect()
 }
 
-/// At each hop of this way, all that may take a packet that begins with this
-/// header.
-fn takers_along(fabric: &reference::Fabric, header: u128, way: &[u16]) -> Vec<Vec<u16>> {
-    let mut here = header;
-    let takers = way.iter().map(|&number| {
-        let entry = &fabric.entries[usize::from(number)];
-        let takers = takers(fabric, entry.in_port, here);
-        here = entry.apply(here);
-        takers
-    });
-    takers.collect()
+/// At each hop of this way, the header of a packet that begins with this one, and
+/// all that may take it.
+fn takers_along(fabric: &reference::Fabric, header: u128, way: &[u16]) -> Vec<(u128, Vec<u16>)> {
+    let mut next = header;
+    let hop = |&number: &u16| {
+        let (entry, here) = (&fabric.entries[usize::from(number)], next);
+        next = entry.apply(here);
+        (here, takers(fabric, entry.in_port, here))
+    };
+    way.iter().map(hop).collect()
 }
 
 fn small_fabric(rng: &mut Rng) -> Small {
@@ -103,7 +102,7 @@ fn equals_by_the_rule(fabric: &reference::Fabric, bits: &[u32], find: &Find) -> 
             continue;
         }
         let along = takers_along(fabric, header, &find.entries);
-        for ((equals, takers), number) in equals.iter_mut().zip(along).zip(&find.entries[..]) {
+        for ((equals, (_, takers)), number) in equals.iter_mut().zip(along).zip(&find.entries[..]) {
             assert!(takers.contains(number), "the way can be taken");
             equals.extend(takers.into_iter().filter(|taker| taker != number));
         }
@@ -115,7 +114,7 @@ fn equals_by_the_rule(fabric: &reference::Fabric, bits: &[u32], find: &Find) -> 
 /// where there is a choice.
 #[test]
 fn hops_of_verdicts() {
-    let (chosen, alone) = (Cell::new(0), Cell::new(0));
+    let [chosen, alone, moved]: [Seen; 3] = Default::default();
     cases(13_100_000, 6000, |rng| {
         let made = match rng.once_in(2) {
             true => small_fabric(rng).fabric,
@@ -135,19 +134,21 @@ fn hops_of_verdicts() {
         let hops = fabric.hops(&header, &entries).unwrap();
         let along = takers_along(&made, from_words(header.0), &entries);
         assert_eq!(hops.len(), entries.len());
-        for ((hop, takers), number) in hops.iter().zip(&along).zip(&entries[..]) {
+        for ((hop, (here, takers)), number) in hops.iter().zip(&along).zip(&entries[..]) {
             assert_eq!((&hop.number, &hop.takers), (number, takers));
+            assert_eq!(hop.header, Header(to_words(*here)));
             let others = takers.iter().copied().filter(|taker| taker != number);
             assert_eq!(hop.equals(), others.collect::<Vec<_>>());
             assert!(takers.contains(number));
         }
         let way = run(&file, port.into(), header, asked.hops).unwrap();
-        let choice = along.iter().position(|takers| takers.len() > 1);
-        let cell = match choice {
+        let choice = along.iter().position(|(_, takers)| takers.len() > 1);
+        let seen = match choice {
             Some(hop) => {
                 assert_eq!((way.fate, way.hops as usize), (Fate::Tied, hop));
                 assert_eq!(way.entries[..], entries[..hop]);
-                assert_eq!(fabric.takers(way.port, &way.header), along[hop]);
+                assert_eq!(way.header, hops[hop].header);
+                assert_eq!(fabric.takers(way.port, &way.header), along[hop].1);
                 &chosen
             }
             None => {
@@ -156,10 +157,12 @@ fn hops_of_verdicts() {
                 &alone
             }
         };
-        cell.set(cell.get() + 1);
+        seen.add(1);
+        moved.add(transfers(&made, &entries).into());
     });
-    let replayed = std::env::var_os("SEED").is_some();
-    assert!(replayed || chosen.get() > 300 && alone.get() > 300);
+    for seen in [chosen, alone, moved] {
+        seen.at_least(300);
+    }
 }
 
 /// A way of entries that the fabric doesn't have is none.
