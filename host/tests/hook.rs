@@ -91,12 +91,13 @@ fn reached() {
     }
 }
 
-/// A container stays down if one choice among entries of the same priority lets
-/// something foreign to its volume, and comes up if none does.
+/// A container stays down if one choice among entries of the same priority, or a
+/// reply with the addresses swapped, lets something foreign to its volume, and
+/// comes up if nothing does.
 #[test]
-fn under_every_choice() {
-    let folder = configured("hook-ties");
-    let fabric = folder.join("tied.fabric");
+fn as_the_stories_end() {
+    let folder = configured("hook-stories");
+    let fabric = folder.join("story.fabric");
     let stories = Path::new(env!("CARGO_MANIFEST_DIR")).join("stories");
     for (story, why) in [
         (
@@ -105,6 +106,8 @@ fn under_every_choice() {
         ),
         ("two-controllers.closed", None),
         ("harmless-ties", None),
+        ("reply-swap", Some("reached: port 2, from port 1, sha256")),
+        ("reply-swap.closed", None),
     ] {
         let said = fs::read_to_string(stories.join(format!("{story}.fabric.txt"))).unwrap();
         fs::write(&fabric, pack(&said).unwrap()).unwrap();

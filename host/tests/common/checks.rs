@@ -9,7 +9,7 @@ use mwishovala::limits;
 use reference::examples::{fabric_f, linked, replies_behind_a_link};
 use reference::file::write;
 use reference::random::{any, cases, damage, deep_ring, inflict, query, Damage, Rng};
-use reference::{Fabric, Query};
+use reference::{Fabric, Query, Transfer};
 
 /// Damaged in each way, some of them once more at random.
 pub fn damaged_files(call: Call, first: u64, length: fn(&mut Rng) -> usize) {
@@ -56,9 +56,13 @@ pub fn budgets_around_the_count(
 }
 
 /// The product's code for the deepest descent, 16 hops of 63 beaters, on a
-/// thread with half a mebibyte of stack.
+/// thread with half a mebibyte of stack. All entries copy, which adds no units:
+/// both addresses are rewritten.
 pub fn with_little_stack(call: Call, room: usize) -> u64 {
-    let ring = deep_ring();
+    let mut ring = deep_ring();
+    for entry in &mut ring.fabric.entries {
+        entry.transfer = Transfer::Copy;
+    }
     let file = write(&ring.fabric);
     let deepest = move || call.product(&file, &mut vec![0; room], &ring.query);
     let thread = thread::Builder::new().stack_size(limits::STACK_BYTES);
