@@ -117,8 +117,8 @@ fn has(fabric: &Fabric, transfer: Transfer) -> bool {
     entries.any(|entry| entry.transfer == transfer)
 }
 
-/// Each generator makes many fabrics whose entries copy and swap, and a third or
-/// more where none does either.
+/// Each generator makes many fabrics whose entries copy and swap, and many where
+/// none does either.
 #[test]
 fn transfers_and_none() {
     for (name, make) in GENERATORS {

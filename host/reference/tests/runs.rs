@@ -7,7 +7,7 @@ use reference::examples::{edge, entry, fabric, link, run_query, to_tp_dst, tp_ds
 use reference::file::write;
 use reference::random::{any, cases, packet};
 use reference::ways::{Packet, TIED};
-use reference::{run, Entry, Fabric, Set};
+use reference::{run, Entry, Fabric, Set, Transfer};
 
 /// Edges 1 and 2; links 10 to 11, 12 to 13, 14 to 15.
 /// At 1: entry 2 sends tp_dst 80 to 10, as 81; entry 4 sends what has two bits
@@ -150,7 +150,7 @@ fn sixteen_hops_round_a_ring() {
 /// where these are few enough to be looked at.
 #[test]
 fn runs_agree_with_naive_forwarding() {
-    let tied = Seen::default();
+    let [tied, moved]: [Seen; 2] = Default::default();
     cases(10_000, 2000, |rng| {
         let fabric = any(rng);
         let file = write(&fabric);
@@ -166,7 +166,11 @@ fn runs_agree_with_naive_forwarding() {
                 assert_eq!(packet.run_by(&ends), Some(naive));
             }
             tied.count(words[0] == TIED);
+            let transfer = |&entry: &u32| fabric.entries[entry as usize].transfer;
+            let taken = &words[8..][..words[3] as usize];
+            moved.count(taken.iter().any(|entry| transfer(entry) != Transfer::None));
         }
     });
     tied.at_least(2000);
+    moved.at_least(2000);
 }
