@@ -63,8 +63,8 @@ module _ (n : ℕ) (from : ℕ → ℕ) (inside : (w : ℕ) → w < n → from w
   unfolding gathered
   gathered-formed zero l = λ s e. let d : allWild n ≡ s = cc in subst (WellFormed n) d (all-wild-well-formed n)
   gathered-formed (suc v) l =
-      formed-next n (gathered n from t v) (λ s. intersection n s (wantedOf n (from v) v t)) (gathered-formed v (omega arith)) λ s ws.
-      intersection-well-formed n s _ ws (wanted-well-formed n t wt (from v) v (omega arith))
+      formed-next n (gathered n from t v) _ (gathered-formed v (omega arith)) λ s ws.
+      intersection-well-formed n s _ ws (wanted-well-formed n t wt _ v (omega arith))
 
   gathered-exact : (h : Header) (v : ℕ) → v ≤ n
       → among n (gathered n from t v) h ≡ every v (λ w. sameOn (word (t .care) w) (word h (from w)) (word (t .value) w))
@@ -125,19 +125,6 @@ abbrev rewrittenBit : Bool → Bool → Bool → Bool
 rewrittenBit h m v = h && not m || v && m
 
 module _ (n : ℕ) (c d : Course) (kc : Within n c) (kd : Within n d) where
-  pub followed-within : Within n (followed n c d)
-  followed-within = record {
-    inside = λ w l.
-        subst (λ (x : ℕ). x < n) (sym (word-of n (λ w. word (c .from) (word (d .from) w)) w l))
-        (kc .inside (word (d .from) w) (kd .inside w l));
-    written = record {
-      mask = words-fit n _ (λ w l. or-lt 32 _ _ (kc .written .mask .fits _ (kd .inside w l)) (kd .written .mask .fits w l));
-      value = words-fit n _ (λ w l. or-lt 32 _ _
-          (lt-of-le-of-lt (and-le-l (word (c .rewrite .value) (word (d .from) w)) _) (kc .written .value .fits _ (kd .inside w l)))
-          (lt-of-le-of-lt (and-le-l (word (d .rewrite .value) w) _) (kd .written .value .fits w l)));
-    };
-  }
-
   abbrev both : Course
   both = followed n c d
 
@@ -161,9 +148,8 @@ module _ (n : ℕ) (c d : Course) (kc : Within n c) (kd : Within n d) where
   brought-twice : (i : ℕ) → i < n * 32 → brought (word (both .from)) i ≡ brought first (brought last i)
   unfolding brought
   brought-twice i l =
-      let a : (last (i / 32) * 32 + i % 32) / 32 ≡ last (i / 32) = omega arith in
-      let b : (last (i / 32) * 32 + i % 32) % 32 ≡ i % 32 = omega arith in
-      rw (word-of n (λ w. first (last w)) (i / 32) (omega arith), a, b)
+      ap (λ (w : ℕ). w * 32 + i % 32) (word-of n (λ w. first (last w)) (i / 32) (omega arith))
+      ∙ ap₂ (λ (w k : ℕ). first w * 32 + k) (sym (brought-word last i)) (sym (brought-bit last i))
 
   mask-bit : (i : ℕ) → i < n * 32
       → bitAt (both .rewrite .mask) i ≡ (bitAt (c .rewrite .mask) (brought last i) || bitAt (d .rewrite .mask) i)
@@ -179,6 +165,19 @@ module _ (n : ℕ) (c d : Course) (kc : Within n c) (kd : Within n d) where
       ap (λ (x : List ℕ). bitAt x i) (words-same n _ _ (λ w k. rw (word-of n (λ w. word (c .rewrite .value) (last w)) w k)))
       ∙ rewritten-bit n (d .rewrite) (kd .written .mask) (moved n last (c .rewrite .value)) i l
       ∙ ap (byLast i) (moved-bit n last (c .rewrite .value) i l)
+
+  pub followed-within : Within n (followed n c d)
+  followed-within = record {
+    inside = λ w l.
+        subst (λ (x : ℕ). x < n) (sym (word-of n (λ w. word (c .from) (word (d .from) w)) w l))
+        (kc .inside (word (d .from) w) (kd .inside w l));
+    written = record {
+      mask = words-fit n _ (λ w l. or-lt 32 _ _ (kc .written .mask .fits _ (kd .inside w l)) (kd .written .mask .fits w l));
+      value = words-fit n _ (λ w l. or-lt 32 _ _
+          (lt-of-le-of-lt (and-le-l (word (c .rewrite .value) (word (d .from) w)) _) (kc .written .value .fits _ (kd .inside w l)))
+          (lt-of-le-of-lt (and-le-l (word (d .rewrite .value) w) _) (kd .written .value .fits w l)));
+    };
+  }
 
   -- a bit of what c makes of a header, and of what d makes of that
   first-bit : (h : Header) (j : ℕ) → j < n * 32

@@ -151,9 +151,6 @@ module _ (n : ℕ) (two : 2 ≤ n) (t : Set) (wt : WellFormed n t) where
 
 -- ---- undoing an action
 
-pub acted-fits : (n : ℕ) (a : Act) → Written n (a .rewrite) → (h : Header) → Words n (acted n a h)
-acted-fits n a f h = rewritten-fits n (a .rewrite) f (transferred n (a .transfer) h)
-
 module _ (n : ℕ) (two : 2 ≤ n) (a : Act) (t : Set) (m : Words n (a .rewrite .mask)) (wt : WellFormed n t) where
   -- a header is in the undone set exactly if the action makes it into a header of the set
   pub unacted-exact : (h : Header) → among n (unacted n a t) h ≡ contains n t (acted n a h)
@@ -177,6 +174,11 @@ module _ (n : ℕ) (two : 2 ≤ n) (a : Act) (t : Set) (m : Words n (a .rewrite 
   pub unacted-empty : (unacted n a t ≡ none) ↔ ((h : Header) → Words n h → contains n t (acted n a h) ≡ false)
   unacted-empty =
       empty-exactly n (unacted n a t) (λ h. contains n t (acted n a h)) (λ s e. unacted-well-formed s e .care) (λ h w. unacted-exact h)
+
+-- ---- acting
+
+pub acted-fits : (n : ℕ) (a : Act) → Written n (a .rewrite) → (h : Header) → Words n (acted n a h)
+acted-fits n a f h = rewritten-fits n (a .rewrite) f (transferred n (a .transfer) h)
 
 -- the action that neither moves nor masks leaves every header as it is
 pub no-action-keeps : (n : ℕ) (h : Header) → Words n h → acted n (noAction n) h ≡ h

@@ -1,12 +1,12 @@
--- Where questions 1 and 7 (Q1, Q7) change their answer, computed: a length of 40,200 bytes, and the last record within each of the four
--- limits. Assumes nothing.
-use mathlib.Core.Bool.{Bool, true, false}
+-- Where questions 1, 3 and 7 (Q1, Q3, Q7) change their answer, computed: a length of 40,200 bytes, the bits of an entry's second word, and
+-- the last record within each of the four limits.
+use mathlib.Core.Bool.{Bool, true, false, _&&_}
 use mathlib.Core.List.{[], _∷_, _++_}
 use mathlib.Core.Path.{_≡_, refl}
 use Prim.Native.Nat.{ℕ}
 use lib.ListN.{replicate}
 use Rattle.records.specs.Words.{wordAt}
-use Rattle.questions.specs.Questions.{sized, withinLimits}
+use Rattle.questions.specs.Questions.{sized, afterStart, zeroBits, transferKnown, withinLimits}
 
 -- ---- Q1, the length
 
@@ -17,6 +17,26 @@ lengths = refl
 longest : (sized (replicate 40200 0) ∷ sized (replicate 40204 0) ∷ []) ≡ true ∷ false ∷ []
 unfolding sized
 longest = refl
+
+-- ---- Q3, an entry's second word
+
+-- an entry after a start, with these four bytes as its second word, the highest first
+abbrev second : ℕ → ℕ → ℕ → ℕ → Bool
+second a b c d =
+    let file = replicate 4 0 ++ (5 ∷ 0 ∷ 0 ∷ 0x40 ∷ d ∷ c ∷ b ∷ a ∷ []) in
+    zeroBits file afterStart && transferKnown file afterStart
+
+-- no transfer, a copy and a swap, each with the highest out-port; the numbers 3 and 15
+transfers : (second 0 0 0x0f 0xff ∷ second 0x10 0 0x0f 0xff ∷ second 0x20 0 0x0f 0xff ∷ second 0x30 0 0 0 ∷ second 0xf0 0 0 0 ∷ [])
+    ≡ true ∷ true ∷ true ∷ false ∷ false ∷ []
+unfolding wordAt
+transfers = refl
+
+-- the highest and the lowest zero bit, without a transfer and with one
+zero-bits : (second 0x08 0 0 0 ∷ second 0 0 0x10 0 ∷ second 0x28 0 0 0 ∷ second 0x20 0 0x10 0 ∷ [])
+    ≡ false ∷ false ∷ false ∷ false ∷ []
+unfolding wordAt
+zero-bits = refl
 
 -- ---- Q7, the limits
 

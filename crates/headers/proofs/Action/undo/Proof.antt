@@ -14,25 +14,25 @@ use Rattle.headers.proofs.Action.undo.Tie as tie
 -- ---- from the rewrite undone, u, and then the transfer, v
 
 module _ (a : Act) (t matches : Set) (u : MaybeSet) (rewrite : u ≡ maybeOf (undone 4 (a .rewrite) t)) where
-  no-rewrite : u .some ≡ false → u ≡ maybeOf (before 4 matches a t)
-  unfolding unacted before
-  no-rewrite e =
-      then-empty (unacted 4 a t) (λ s. intersection 4 s matches) u
-      (then-empty (undone 4 (a .rewrite) t) (untransferred 4 (a .transfer)) u rewrite e) e
-
   module _ (some : u .some ≡ true) (v : MaybeSet) (transfer : v ≡ maybeOf (untransferred 4 (a .transfer) (setOf (u .set)))) where
     both : v ≡ maybeOf (unacted 4 a t)
     unfolding unacted
     both = transfer ∙ then-set (undone 4 (a .rewrite) t) (untransferred 4 (a .transfer)) u rewrite some
 
-    no-transfer : v .some ≡ false → v ≡ maybeOf (before 4 matches a t)
-    unfolding before
-    no-transfer e = then-empty (unacted 4 a t) (λ s. intersection 4 s matches) v both e
-
     met : v .some ≡ true → (r : MaybeSet) → r ≡ maybeOf (intersection 4 (setOf (v .set)) matches)
         → r ≡ maybeOf (before 4 matches a t)
     unfolding before
     met e r h = h ∙ then-set (unacted 4 a t) (λ s. intersection 4 s matches) v both e
+
+    no-transfer : v .some ≡ false → v ≡ maybeOf (before 4 matches a t)
+    unfolding before
+    no-transfer e = then-empty (unacted 4 a t) (λ s. intersection 4 s matches) v both e
+
+  no-rewrite : u .some ≡ false → u ≡ maybeOf (before 4 matches a t)
+  unfolding unacted before
+  no-rewrite e =
+      then-empty (unacted 4 a t) (λ s. intersection 4 s matches) u
+      (then-empty (undone 4 (a .rewrite) t) (untransferred 4 (a .transfer)) u rewrite e) e
 
 -- ---- the needs
 
