@@ -13,7 +13,10 @@ mod small;
 mod switches;
 mod transfers;
 
-pub use benchmark::{campus, deep_ring, replies, twenty_denies, Benchmark};
+pub use benchmark::{
+    audited, benchmarks, campus, deep_ring, denies_on_fields, every_beater_meets, no_beater_meets,
+    random_denies, random_transit, replies, routed_campus, twenty_denies, Benchmark,
+};
 pub use damage::{damage, inflict, Damage, Damaged};
 pub use denies::{beater_chain, wild_under_denies};
 pub use largest::largest;

@@ -8,8 +8,10 @@ use common::answer;
 use reference::file::{read, write};
 use reference::index::Index;
 use reference::random::{
-    any, beater_chain, campus, cases, dead_ends, deep_ring, largest, replies, ring, small,
-    small_ring, switches, ties, tiny, twenty_denies, wild_under_denies, Benchmark, Rng, Small,
+    any, audited, beater_chain, campus, cases, dead_ends, deep_ring, denies_on_fields,
+    every_beater_meets, largest, no_beater_meets, random_denies, random_transit, replies, ring,
+    routed_campus, small, small_ring, switches, ties, tiny, twenty_denies, wild_under_denies,
+    Benchmark, Rng, Small,
 };
 use reference::trace::trace;
 use reference::{list, verdict, Entry, Fabric, Query, Set, Transfer};
@@ -190,4 +192,51 @@ fn the_benchmarks() {
     assert_eq!(most_hops(&campus().fabric), 3);
     assert_eq!(measure(replies(), 1 << 20), (384, 10_351, 1287));
     assert_eq!(most_hops(&replies().fabric), 7);
+    assert_eq!(measure(routed_campus(), 1 << 20), (288, 45_982, 6250));
+    assert_eq!(most_hops(&routed_campus().fabric), 16);
+    assert_eq!(measure(random_denies(), 1 << 20), (500, 111_749, 9821));
+    assert_eq!(measure(random_transit(), 1 << 20), (500, 292_016, 659));
+}
+
+#[test]
+fn denies_multiply_from_field_to_field() {
+    let measured = denies_on_fields().map(|benchmark| measure(benchmark, 4 << 20));
+    let expected = [
+        (9, 161, 21),
+        (17, 3521, 441),
+        (25, 49_385, 5733),
+        (33, 662_816, 80_262),
+    ];
+    assert_eq!(measured, expected);
+}
+
+#[test]
+fn all_edges_of_the_audit_are_isolated() {
+    let benchmark = audited();
+    assert_eq!(benchmark.fabric.edges.len(), 64);
+    let mut units = 0;
+    for edge in &benchmark.fabric.edges {
+        let mut about = benchmark.clone();
+        about.query.port = edge.port.into();
+        units += measure(about, 1 << 20).1;
+    }
+    assert_eq!(units, 243_721);
+}
+
+/// One way of 16 hops with the same beaters, of which each takes a bit of its own
+/// from the part, or none meets it.
+#[test]
+fn the_descents() {
+    for (descent, cared) in [(every_beater_meets(), 63), (no_beater_meets(), 1)] {
+        let index = Index::new(&descent.fabric);
+        let mut hops = Vec::new();
+        trace(&index, 2, 16, Set::ALL_WILD, 2000, |find| {
+            assert_eq!(find.set.care.count_ones(), cared);
+            hops.push(find.entries.len());
+            ControlFlow::Continue(())
+        });
+        hops.sort();
+        assert_eq!(hops, [2, 9, 16]);
+        assert_eq!(measure(descent, 1 << 20), (512, 1213, 3));
+    }
 }

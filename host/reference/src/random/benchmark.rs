@@ -1,13 +1,25 @@
-//! Four fabrics to measure time with. In each of them the target is isolated,
+//! Fabrics to measure time and stack with. In each of them the target is isolated,
 //! so that a verdict has to make the whole trace.
 
+mod audited;
 mod campus;
 mod deep_ring;
+mod descents;
+mod fields;
+mod random_denies;
+mod random_transit;
 mod replies;
+mod routed_campus;
 
+pub use audited::audited;
 pub use campus::campus;
 pub use deep_ring::deep_ring;
+pub use descents::{every_beater_meets, no_beater_meets};
+pub use fields::denies_on_fields;
+pub use random_denies::random_denies;
+pub use random_transit::random_transit;
 pub use replies::replies;
+pub use routed_campus::routed_campus;
 
 use crate::calls::Query;
 use crate::examples::{edge, entry, fabric, wild_query};
@@ -32,6 +44,19 @@ impl Benchmark {
             query,
         }
     }
+}
+
+/// Those that time is measured with, a row each.
+pub fn benchmarks() -> Vec<Benchmark> {
+    vec![
+        campus(),
+        routed_campus(),
+        twenty_denies(),
+        deep_ring(),
+        replies(),
+        random_denies(),
+        random_transit(),
+    ]
 }
 
 fn rewrite(mask: [u32; 4], value: [u32; 4]) -> Rewrite {

@@ -105,6 +105,14 @@ pub(super) fn rewrite_over(rng: &mut Rng, bits: &[u32], most: usize) -> Rewrite 
     Rewrite::to(set_over(rng, bits, most))
 }
 
+/// The headers in both of two sets that care for different bits.
+pub(super) fn both(one: Set, other: Set) -> Set {
+    Set {
+        care: one.care | other.care,
+        value: one.value | other.value,
+    }
+}
+
 /// 10.switch.place.0
 pub(super) fn address(switch: usize, place: usize) -> u32 {
     10 << 24 | (switch as u32) << 16 | (place as u32) << 8

@@ -1,6 +1,6 @@
 //! Switches with many ports and links between them.
 
-use super::parts::{address, field_rewrite, prefix_of, some_ports, tidy};
+use super::parts::{address, both, field_rewrite, prefix_of, some_ports, tidy};
 use super::{finish, Rng};
 use crate::examples::entry;
 use crate::fabric::{Edge, Entry, Fabric, Link};
@@ -82,9 +82,5 @@ fn route(rng: &mut Rng, prefix: Set) -> Set {
         2 => ([0xffff_0000, 0, 0, 0], [address(rng.below(3), 0), 0, 0, 0]),
         _ => ([0; 4], [0; 4]),
     };
-    let only = Set::of_words(care, value);
-    Set {
-        care: prefix.care | only.care,
-        value: prefix.value | only.value,
-    }
+    both(prefix, Set::of_words(care, value))
 }

@@ -1,6 +1,8 @@
 //! A campus that answers.
 
-use super::campus::{network, routed, tag, tenant_port, uplink_port, CORES, TENANTS};
+use super::campus::{
+    network, routed, tag, tenant_port, uplink_port, CORES, EVERY_BUILDING, TENANTS,
+};
 use super::{rewrite, Benchmark};
 use crate::examples::entry;
 use crate::fabric::Entry;
@@ -12,7 +14,7 @@ const BUILDINGS: u16 = 4;
 /// The campus with four buildings, each of which answers for its tenants: 384
 /// entries, and ways of up to seven hops, there, back and there again.
 pub fn replies() -> Benchmark {
-    let mut fabric = routed(BUILDINGS);
+    let mut fabric = routed(BUILDINGS, EVERY_BUILDING);
     for building in 0..BUILDINGS {
         for core in 0..CORES {
             let answers = (0..TENANTS).flat_map(|tenant| answers(building, core, tenant));

@@ -1,0 +1,71 @@
+//! One switch with random entries.
+
+use super::Benchmark;
+use crate::examples::{edge, entry, tp_dst};
+use crate::fabric::{Entry, Fabric};
+use crate::random::parts::{address, both, prefix_of};
+use crate::random::Rng;
+use crate::set::Set;
+
+const SEED: u64 = 2;
+const EDGES: usize = 10;
+const ALLOWS: usize = 30;
+const DENIES: usize = 20;
+
+/// 500 random entries at the ten edges of one switch, all of one group. At each
+/// edge there are thirty allows, and twenty denies that beat them all.
+pub fn random_denies() -> Benchmark {
+    let rng = &mut Rng::new(SEED);
+    let ports: Vec<u16> = (1..=EDGES as u16).collect();
+    let mut fabric = Fabric::default();
+    for (place, &in_port) in ports.iter().enumerate() {
+        fabric.edges.push(edge(1, in_port));
+        for _ in 0..ALLOWS {
+            let out_port = ports[(place + rng.between(1, EDGES - 1)) % EDGES];
+            fabric.entries.push(Entry {
+                matching: wide_route(rng),
+                ..entry(priority(rng, 0), in_port, out_port)
+            });
+        }
+        for _ in 0..DENIES {
+            fabric.entries.push(Entry {
+                matching: flow(rng),
+                ..entry(priority(rng, PRIORITIES), in_port, 0)
+            });
+        }
+    }
+    rng.shuffle(&mut fabric.entries);
+    Benchmark::all_wild("random denies", fabric, ports[0])
+}
+
+const PRIORITIES: u16 = 100;
+
+fn priority(rng: &mut Rng, lowest: u16) -> u16 {
+    lowest + rng.below(PRIORITIES.into()) as u16
+}
+
+/// A prefix of nw_dst and perhaps one of nw_src.
+fn wide_route(rng: &mut Rng) -> Set {
+    let from = prefix(rng, 0, [0, 0, 8, 16]);
+    both(from, prefix(rng, 1, [8, 16, 16, 24]))
+}
+
+/// Perhaps a prefix of each address, perhaps a tp_dst and perhaps an nw_proto.
+fn flow(rng: &mut Rng) -> Set {
+    let any = Set::ALL_WILD;
+    let from = prefix(rng, 0, [0, 16, 24, 32]);
+    let to = prefix(rng, 1, [0, 16, 24, 32]);
+    let service = rng.one_of([any, any, tp_dst(23), tp_dst(80)]);
+    let protocol = rng.one_of([any, any, nw_proto(6), nw_proto(17)]);
+    [to, service, protocol].into_iter().fold(from, both)
+}
+
+/// A prefix, of one of these lengths, of one of a few networks.
+fn prefix(rng: &mut Rng, word: usize, lengths: [u32; 4]) -> Set {
+    let network = address(rng.below(8), rng.below(8));
+    prefix_of(word, network, rng.one_of(lengths))
+}
+
+fn nw_proto(number: u32) -> Set {
+    Set::of_words([0, 0, 0, 0xff], [0, 0, 0, number])
+}

@@ -1,0 +1,59 @@
+//! Switches with random entries, all linked with each other.
+
+use super::Benchmark;
+use crate::examples::{edge, entry, link, tp_dst};
+use crate::fabric::{Entry, Fabric};
+use crate::random::parts::{address, both, field_rewrite, prefix_of};
+use crate::random::Rng;
+use crate::set::Set;
+
+const SEED: u64 = 32;
+const SWITCHES: u16 = 5;
+const ENTRIES_PER_IN_PORT: usize = 20;
+
+/// 500 random entries at five switches, each of which has an edge and a link to
+/// every other; all of one group. Some entries drop and some rewrite.
+pub fn random_transit() -> Benchmark {
+    let rng = &mut Rng::new(SEED);
+    let mut fabric = Fabric::default();
+    for switch in 0..SWITCHES {
+        let mut ports = vec![edge_port(switch)];
+        fabric.edges.push(edge(1, edge_port(switch)));
+        for other in (0..SWITCHES).filter(|&other| other != switch) {
+            let (here, there) = (link_port(switch, other), link_port(other, switch));
+            fabric.links.push(link(here, there));
+            ports.push(here);
+        }
+        for &in_port in &ports {
+            for _ in 0..ENTRIES_PER_IN_PORT {
+                fabric.entries.push(random_entry(rng, in_port, &ports));
+            }
+        }
+    }
+    rng.shuffle(&mut fabric.entries);
+    Benchmark::all_wild("random transit", fabric, edge_port(0))
+}
+
+fn edge_port(switch: u16) -> u16 {
+    1 + switch
+}
+
+fn link_port(switch: u16, other: u16) -> u16 {
+    100 + switch * SWITCHES + other
+}
+
+/// Mostly, a longer prefix has a higher priority.
+fn random_entry(rng: &mut Rng, in_port: u16, ports: &[u16]) -> Entry {
+    let any = Set::ALL_WILD;
+    let length = rng.one_of([8, 16, 24, 24]);
+    let to = prefix_of(1, address(rng.below(4), rng.below(4)), length);
+    let service = rng.one_of([any, any, any, tp_dst(22), tp_dst(80), tp_dst(81)]);
+    let sent_on = *rng.pick(ports).unwrap_or(&0);
+    let drops = sent_on == in_port || rng.once_in(5);
+    let priority = length as u16 + rng.below(12) as u16;
+    Entry {
+        matching: both(to, service),
+        rewrite: field_rewrite(rng),
+        ..entry(priority, in_port, if drops { 0 } else { sent_on })
+    }
+}

@@ -1,0 +1,151 @@
+//! A routed campus whose cores are a ring.
+
+use super::{deny, Benchmark};
+use crate::examples::{edge, entry};
+use crate::fabric::{Entry, Fabric, Link};
+use crate::random::parts::{address, prefix_of};
+use crate::set::Set;
+
+const SITES: u16 = 12;
+const HOSTS: u16 = 2;
+
+const DENY: u16 = 30;
+const ROUTE: u16 = 20;
+const DEFAULT: u16 = 10;
+
+/// A routed campus of 12 sites and 288 entries, all of one group, and ways of up
+/// to 16 hops.
+///
+/// A site has an edge switch with two edges, a distribution and a core switch.
+/// What is for another site goes up by default, and from its core either way round
+/// the ring, by two equals. Each core has its own quarantined host, so that parts
+/// grow in number with the way.
+pub fn routed_campus() -> Benchmark {
+    let mut fabric = Fabric::default();
+    for site in 0..SITES {
+        add_links(&mut fabric, site);
+        add_edge_switch(&mut fabric, site);
+        add_distribution(&mut fabric, site);
+        add_core(&mut fabric, site);
+    }
+    Benchmark::all_wild("routed campus", fabric, host_port(0, 0))
+}
+
+fn host_port(site: u16, host: u16) -> u16 {
+    1 + site * HOSTS + host
+}
+
+/// From the edge switch to the distribution, and so on up.
+fn edge_up(site: u16) -> u16 {
+    100 + site
+}
+
+fn distribution_down(site: u16) -> u16 {
+    200 + site
+}
+
+fn distribution_up(site: u16) -> u16 {
+    300 + site
+}
+
+fn core_down(site: u16) -> u16 {
+    400 + site
+}
+
+/// To the core before on the ring.
+fn core_back(site: u16) -> u16 {
+    500 + site
+}
+
+/// To the next core on the ring.
+fn core_on(site: u16) -> u16 {
+    600 + site
+}
+
+fn add_links(fabric: &mut Fabric, site: u16) {
+    let pairs = [
+        (edge_up(site), distribution_down(site)),
+        (distribution_up(site), core_down(site)),
+        (core_on(site), core_back((site + 1) % SITES)),
+    ];
+    for (one, other) in pairs {
+        fabric.links.push(Link {
+            from: one,
+            to: other,
+        });
+        fabric.links.push(Link {
+            from: other,
+            to: one,
+        });
+    }
+}
+
+fn add_edge_switch(fabric: &mut Fabric, site: u16) {
+    let up = edge_up(site);
+    for host in 0..HOSTS {
+        let port = host_port(site, host);
+        let other = (host + 1) % HOSTS;
+        fabric.edges.push(edge(1, port));
+        fabric.entries.extend([
+            deny(DENY, port, quarantined(site)),
+            deny(DENY, port, from_outside()),
+            route(port, host_port(site, other), to_host(site, other)),
+            entry(DEFAULT, port, up),
+            route(up, port, to_host(site, host)),
+        ]);
+    }
+    fabric.entries.push(deny(DENY, up, quarantined(site)));
+}
+
+/// What is for the own site and comes from below would come back for ever.
+fn add_distribution(fabric: &mut Fabric, site: u16) {
+    let (down, up) = (distribution_down(site), distribution_up(site));
+    fabric.entries.extend([
+        deny(DENY, down, to_site(site)),
+        deny(DENY, down, from_outside()),
+        entry(DEFAULT, down, up),
+        route(up, down, to_site(site)),
+        deny(DENY, up, from_outside()),
+    ]);
+}
+
+fn add_core(fabric: &mut Fabric, site: u16) {
+    let (down, back, on) = (core_down(site), core_back(site), core_on(site));
+    fabric
+        .entries
+        .extend([entry(DEFAULT, down, back), entry(DEFAULT, down, on)]);
+    for (from, to) in [(back, on), (on, back)] {
+        fabric.entries.extend([
+            deny(DENY, from, quarantined(site)),
+            route(from, down, to_site(site)),
+            entry(DEFAULT, from, to),
+        ]);
+    }
+}
+
+fn route(in_port: u16, out_port: u16, matching: Set) -> Entry {
+    Entry {
+        matching,
+        ..entry(ROUTE, in_port, out_port)
+    }
+}
+
+/// nw_dst 10.site.host.0/24
+fn to_host(site: u16, host: u16) -> Set {
+    prefix_of(1, address(site.into(), host.into()), 24)
+}
+
+/// nw_dst 10.site.0.0/16
+fn to_site(site: u16) -> Set {
+    prefix_of(1, address(site.into(), 0), 16)
+}
+
+/// nw_src 10.site.0.77
+fn quarantined(site: u16) -> Set {
+    prefix_of(0, address(site.into(), 0) | 77, 32)
+}
+
+/// nw_src 192.168.0.0/16
+fn from_outside() -> Set {
+    prefix_of(0, 0xc0a8_0000, 16)
+}
