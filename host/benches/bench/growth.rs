@@ -1,7 +1,7 @@
 //! How a verdict's time grows with entries, hops and beaters.
 
 use std::hint::black_box;
-use std::path::PathBuf;
+use std::path::Path;
 
 use crate::plot::{svg, Panel, Point};
 use crate::timing::{in_words, race};
@@ -13,10 +13,9 @@ use reference::{Entry, Fabric, Set};
 
 const START: u16 = 1;
 const TARGET: u16 = 2;
-/// Where the plot goes if no folder is given.
-const PLOT_FOLDER: &str = env!("CARGO_TARGET_TMPDIR");
 
-pub fn table_and_plot() {
+/// Prints a table of each, and draws all of them to a file in this folder.
+pub fn table_and_plot(folder: &Path) {
     let panels = [
         panel(
             "entries",
@@ -26,10 +25,7 @@ pub fn table_and_plot() {
         panel("hops", &[1, 2, 4, 6, 8, 10, 12, 14, 16], by_hops),
         panel("beaters", &[0, 7, 15, 23, 31, 39, 47, 55, 63], by_beaters),
     ];
-    let folder = std::env::args()
-        .skip(1)
-        .find(|argument| argument != "--bench");
-    let path = PathBuf::from(folder.as_deref().unwrap_or(PLOT_FOLDER)).join("growth.svg");
+    let path = folder.join("growth.svg");
     match std::fs::write(&path, svg(&panels)) {
         Ok(()) => println!("The plot is {}.", path.display()),
         Err(error) => println!("No plot: {}: {error}", path.display()),

@@ -7,48 +7,38 @@ use std::sync::atomic::{AtomicUsize, Ordering};
 use std::thread;
 
 use crate::to_host;
-use mwishovala::{raw, QUERY_NUMBERS};
+use crate::work::{Call, LIST, RUN, VERDICT};
 use reference::file::write;
-use reference::random::deep_ring;
+use reference::random::{deep_ring, every_beater_meets, no_beater_meets, Benchmark};
 use reference::Query;
 
 const PAGE: usize = 4096;
 
+/// A run with the most entries, and the deepest descents: 16 hops of 63 beaters.
 pub fn table() {
     println!("{:<32} {:>10} {:>10}", "stack", "product", "reference");
-    let ring = deep_ring();
-    let file = write(&ring.fabric);
-    let packet = Query {
+    let mut run = deep_ring();
+    run.query = Query {
         port: 1,
         care: [u32::MAX; 4],
-        ..ring.query
+        ..run.query
     };
-    row("run, 512 entries", &packet, &file, raw::run, reference::run);
-    {
-        let deepest = "16 hops of 63 beaters";
-        let (verdict, list) = (format!("verdict, {deepest}"), format!("list, {deepest}"));
-        row(
-            &verdict,
-            &ring.query,
-            &file,
-            raw::verdict,
-            reference::verdict,
-        );
-        row(&list, &ring.query, &file, raw::list, reference::list);
+    row("512 entries", &RUN, &run);
+    for descent in [deep_ring(), every_beater_meets(), no_beater_meets()] {
+        row(descent.name, &VERDICT, &descent);
+        row(descent.name, &LIST, &descent);
     }
     println!("The library takes no other memory.\n");
 }
 
-type Product = fn(&[u8], &mut [u8], [u32; QUERY_NUMBERS]) -> u64;
-type Reference = fn(&[u8], &mut [u8], &Query) -> u64;
-
-fn row(name: &str, query: &Query, file: &[u8], product: Product, reference: Reference) {
-    let asked = to_host(query).numbers();
-    let mut area = vec![0; 1 << 20];
-    let product = stack_of(|| product(file, &mut area, asked));
-    let mut area = vec![0; 1 << 20];
-    let reference = stack_of(|| reference(file, &mut area, query));
+fn row(name: &str, call: &Call, asked: &Benchmark) {
+    let (file, query) = (write(&asked.fabric), &asked.query);
+    let numbers = to_host(query).numbers();
+    let mut area = vec![0; call.lent];
+    let product = stack_of(|| (call.product)(&file, &mut area, numbers));
+    let reference = stack_of(|| (call.reference)(&file, &mut area, query));
     let (product, reference) = (in_words(product), in_words(reference));
+    let name = format!("{}, {name}", call.name);
     println!("{name:<32} {product:>10} {reference:>10}");
 }
 

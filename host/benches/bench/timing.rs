@@ -1,8 +1,10 @@
 //! Two ways to do the same, timed in turn.
 
-use std::time::{Duration, Instant};
+use std::time::Duration;
 
-/// How long one go takes.
+use crate::cpu_time;
+
+/// The CPU time that one go takes.
 #[derive(Clone, Copy)]
 pub struct Times {
     pub product: Duration,
@@ -42,11 +44,11 @@ fn goes_in_a_round(go: &mut impl FnMut()) -> u32 {
 }
 
 fn one_go(go: &mut impl FnMut(), goes: u32) -> Duration {
-    let start = Instant::now();
+    let start = cpu_time::now();
     for _ in 0..goes {
         go();
     }
-    start.elapsed() / goes
+    (cpu_time::now() - start) / goes
 }
 
 /// A time with three figures.
