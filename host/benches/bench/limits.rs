@@ -1,13 +1,13 @@
-//! What the product must reach: its time is at most so much of the reference's.
+//! What the product must reach.
 
-use crate::timing::Times;
-
+/// How much of the reference's time the product's may be.
 const VERDICT: f64 = 0.85;
 const LIST: f64 = 1.25;
 const VERDICT_ON_TWENTY_DENIES: f64 = 1.0;
 const LIST_ON_TWENTY_DENIES: f64 = 1.6;
 
-fn most(work: &str, call: &str) -> f64 {
+/// The same, by work and call.
+pub fn most_ratio(work: &str, call: &str) -> f64 {
     match (work, call) {
         ("twenty denies", "verdict") => VERDICT_ON_TWENTY_DENIES,
         ("twenty denies", _) => LIST_ON_TWENTY_DENIES,
@@ -24,19 +24,18 @@ pub struct Tally {
 }
 
 impl Tally {
-    /// Counts a row, and gives the mark that it gets.
-    pub fn mark(&mut self, work: &str, call: &str, times: &Times) -> String {
-        let most = most(work, call);
+    /// Counts a row with this figure, and gives the mark that it gets.
+    pub fn mark(&mut self, figure: f64, most: f64) -> String {
         self.rows += 1;
-        if times.ratio() <= most {
+        if figure <= most {
             return String::new();
         }
         self.above += 1;
-        format!("above {most}")
+        format!("above {most:.2}")
     }
 
-    pub fn any_above(&self) -> bool {
-        self.above > 0
+    pub fn none_above(&self) -> bool {
+        self.above == 0
     }
 
     pub fn print(&self) {

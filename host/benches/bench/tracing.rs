@@ -3,15 +3,17 @@
 
 use std::time::Duration;
 
-use crate::limits::Tally;
+use crate::limits::{most_ratio, Tally};
 use crate::timing::{in_words, Times};
 use crate::work::{audit, fields, traces, Work};
 
 /// The benchmark fabrics, how it grows with the fields of denies, and an audit.
-pub fn tables(tally: &mut Tally) {
-    table("fabric", &traces(), tally);
-    table("fields", &fields(), tally);
-    table("64 edges", &[audit()], tally);
+pub fn tables() -> Tally {
+    let mut tally = Tally::default();
+    table("fabric", &traces(), &mut tally);
+    table("fields", &fields(), &mut tally);
+    table("64 edges", &[audit()], &mut tally);
+    tally
 }
 
 fn table(title: &str, works: &[Work], tally: &mut Tally) {
@@ -23,7 +25,7 @@ fn table(title: &str, works: &[Work], tally: &mut Tally) {
         let units = work.units();
         for call in work.calls {
             let times = work.times(call);
-            let mark = tally.mark(work.name, call.name, &times);
+            let mark = tally.mark(times.ratio(), most_ratio(work.name, call.name));
             let row = row(work.name, units, call.name, &times);
             println!("{}", format!("{row} {mark}").trim_end());
         }

@@ -74,6 +74,22 @@ pub fn audit() -> Work {
     }
 }
 
+/// All of them.
+pub fn works() -> impl Iterator<Item = Work> {
+    traces().into_iter().chain(fields()).chain([audit()])
+}
+
+/// Makes a call of the product with each query of a work, so many times.
+pub fn repeat(work: &str, call: &str, times: usize) -> Result<(), String> {
+    let named = works().find(|named| named.name == work);
+    let work = named.ok_or_else(|| format!("{work}: no such work"))?;
+    let named = work.calls.iter().find(|named| named.name == call);
+    let call = named.ok_or_else(|| format!("{call}: no such call"))?;
+    let mut lent = vec![0; call.lent];
+    (0..times).for_each(|_| work.product(call, &mut lent));
+    Ok(())
+}
+
 impl Work {
     fn trace(benchmark: Benchmark) -> Work {
         Work {
@@ -111,7 +127,7 @@ impl Work {
         )
     }
 
-    pub fn product(&self, call: &Call, lent: &mut [u8]) {
+    fn product(&self, call: &Call, lent: &mut [u8]) {
         for query in &self.queries {
             let code = (call.product)(black_box(&self.file), lent, to_host(query).numbers());
             assert_eq!(code % 256, 0);
