@@ -2,6 +2,7 @@
 //! files. All of it follows from a seed.
 
 mod benchmark;
+mod crowded;
 mod damage;
 mod denies;
 mod equals;
@@ -17,6 +18,7 @@ pub use benchmark::{
     audited, benchmarks, campus, deep_ring, denies_on_fields, every_beater_meets, no_beater_meets,
     random_denies, random_transit, replies, routed_campus, twenty_denies, Benchmark,
 };
+pub use crowded::crowded;
 pub use damage::{damage, inflict, Damage, Damaged};
 pub use denies::{beater_chain, wild_under_denies};
 pub use largest::largest;

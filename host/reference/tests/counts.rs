@@ -6,7 +6,10 @@ mod common;
 use common::{answer, Seen};
 use reference::examples::{edge, entry, fabric, link, tp_dst, wild_query};
 use reference::file::write;
-use reference::random::{any, campus, cases, deep_ring, query, replies, Benchmark};
+use reference::random::{
+    any, audited, campus, cases, crowded, deep_ring, every_beater_meets, no_beater_meets, query,
+    random_denies, replies, routed_campus, small_query, Benchmark,
+};
 use reference::ternary::{self, Event, Ternary};
 use reference::{list, verdict, Entry, Fabric, Query, Set};
 
@@ -77,10 +80,33 @@ fn every_budget_and_room() {
     disagree.at_least(1000);
 }
 
-/// The benchmarks that aren't counted by hand.
+/// Many beaters, of which few meet.
+#[test]
+fn crowded_in_ports() {
+    let compared = Seen::default();
+    cases(710_000, 1000, |rng| {
+        let made = crowded(rng);
+        let asked = small_query(rng, &made);
+        if let Some(events) = ternary::events(&made.fabric, &asked, MOST_EVENTS) {
+            check_budgets(&made.fabric, &asked, &events);
+            compared.count(events.len() > 20);
+        }
+    });
+    compared.at_least(500);
+}
+
+/// The benchmarks that aren't counted by hand, but for the largest.
 #[test]
 fn benchmarks_are_counted() {
-    for Benchmark { fabric, query, .. } in [campus(), deep_ring(), replies()] {
+    let smaller = [
+        campus(),
+        routed_campus(),
+        deep_ring(),
+        replies(),
+        random_denies(),
+    ];
+    let descents = [every_beater_meets(), no_beater_meets(), audited()];
+    for Benchmark { fabric, query, .. } in smaller.into_iter().chain(descents) {
         let events = ternary::events(&fabric, &query, 200_000).unwrap();
         check_budgets(&fabric, &query, &events);
     }

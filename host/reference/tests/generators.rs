@@ -8,7 +8,7 @@ use common::answer;
 use reference::file::{read, write};
 use reference::index::Index;
 use reference::random::{
-    any, audited, beater_chain, campus, cases, dead_ends, deep_ring, denies_on_fields,
+    any, audited, beater_chain, campus, cases, crowded, dead_ends, deep_ring, denies_on_fields,
     every_beater_meets, largest, no_beater_meets, random_denies, random_transit, replies, ring,
     routed_campus, small, small_ring, switches, ties, tiny, twenty_denies, wild_under_denies,
     Benchmark, Rng, Small,
@@ -82,12 +82,13 @@ fn has_equals(fabric: &Fabric) -> bool {
     })
 }
 
-const GENERATORS: [(&str, Make); 10] = [
+const GENERATORS: [(&str, Make); 11] = [
     ("tiny", |rng| tiny(rng).fabric),
     ("small", |rng| small(rng).fabric),
     ("ties", |rng| ties(rng).fabric),
     ("dead ends", |rng| dead_ends(rng).fabric),
     ("small ring", |rng| small_ring(rng).fabric),
+    ("crowded", |rng| crowded(rng).fabric),
     ("switches", switches),
     ("ring", ring),
     ("beater chain", beater_chain),
@@ -141,7 +142,7 @@ fn transfers_and_none() {
 /// Copies and swaps move none of a small fabric's bits elsewhere.
 #[test]
 fn small_fabrics_have_the_same_bits_of_both_addresses() {
-    let makes: [fn(&mut Rng) -> Small; 5] = [tiny, small, ties, dead_ends, small_ring];
+    let makes: [fn(&mut Rng) -> Small; 6] = [tiny, small, ties, dead_ends, small_ring, crowded];
     for make in makes {
         cases(920_000, 200, |rng| {
             let bits = make(rng).bits;
