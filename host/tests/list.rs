@@ -9,7 +9,10 @@ use reference::examples::{
     to_tp_dst, tp_dst, wild_query,
 };
 use reference::file::write;
-use reference::random::{any, campus, cases, deep_ring, query, replies, twenty_denies, Rng};
+use reference::random::{
+    any, audited, campus, cases, deep_ring, query, random_denies, random_transit, replies,
+    routed_campus, twenty_denies, Rng,
+};
 use reference::{Entry, Query, Rewrite, Set, Transfer};
 
 /// Room for any list of these tests.
@@ -106,6 +109,10 @@ fn long_lists() {
         (campus(), ROOM),
         (deep_ring(), ROOM),
         (replies(), ROOM),
+        (routed_campus(), ROOM),
+        (random_denies(), ROOM),
+        (random_transit(), ROOM),
+        (audited(), ROOM),
         (twenty_denies(), 48 << 20),
     ] {
         let (file, asked) = (write(&benchmark.fabric), benchmark.query);

@@ -6,7 +6,7 @@ use common::{agreed, checks, transfers, Seen, VERDICT};
 use mwishovala::{verdict, Verdict};
 use reference::examples::{fabric_f, wild_query};
 use reference::file::write;
-use reference::random::{any, campus, cases, deep_ring, query, replies, twenty_denies, Rng};
+use reference::random::{any, audited, benchmarks, cases, denies_on_fields, query, Rng};
 use reference::set::from_words;
 use reference::ways::{Packet, LEFT, TIED};
 use reference::{Fabric, Query};
@@ -85,7 +85,8 @@ fn budgets_around_the_count() {
 
 #[test]
 fn benchmark_fabrics() {
-    for benchmark in [campus(), twenty_denies(), deep_ring(), replies()] {
+    let with_fields = benchmarks().into_iter().chain(denies_on_fields());
+    for benchmark in with_fields.chain([audited()]) {
         let (file, query) = (write(&benchmark.fabric), benchmark.query);
         let words = agreed(VERDICT, &file, 96, &query).unwrap();
         for budget in [words[1] - 1, words[1]] {
