@@ -7,7 +7,7 @@ mod common;
 use common::{product_alone, Call, LIST, RUN, VERDICT};
 use reference::brute::{Checked, Fact};
 use reference::calls::{read_answer, Answer};
-use reference::random::{dead_ends, small, small_ring, ties, tiny};
+use reference::random::{crowded, dead_ends, small, small_ring, ties, tiny};
 use reference::Query;
 
 const CHECKED: Checked = Checked {
@@ -53,4 +53,11 @@ fn small_rings() {
     tally.has(80, &Fact::OF_TIES);
     tally.has(150, &Fact::OF_TRANSFERS);
     tally.has(1500, &[Fact::FoundFar]);
+}
+
+#[test]
+fn crowded_in_ports() {
+    let tally = CHECKED.on_many(5_500_000, 2000, crowded);
+    tally.has(10, &Fact::OF_TIES);
+    tally.has(30, &Fact::OF_TRANSFERS);
 }

@@ -5,7 +5,7 @@ mod common;
 
 use common::answer;
 use reference::brute::{Checked, Fact};
-use reference::random::{dead_ends, small, small_ring, ties, tiny};
+use reference::random::{crowded, dead_ends, small, small_ring, ties, tiny};
 use reference::{list, run, verdict};
 
 const CHECKED: Checked = Checked {
@@ -46,4 +46,11 @@ fn small_rings() {
     tally.has(50, &Fact::OF_TIES);
     tally.has(100, &Fact::OF_TRANSFERS);
     tally.has(1000, &[Fact::FoundFar]);
+}
+
+#[test]
+fn crowded_in_ports() {
+    let tally = CHECKED.on_many(560_000, 2000, crowded);
+    tally.has(10, &Fact::OF_TIES);
+    tally.has(30, &Fact::OF_TRANSFERS);
 }
