@@ -10,9 +10,8 @@ use crate::fabric::{Entry, Fabric, MOST_ENTRIES_PER_IN_PORT};
 use crate::set::Set;
 
 /// One to three in-ports, one behind the other, from one edge to another. Each has
-/// one wide entry that leads on, and up to 63 others. Mostly these are for another
-/// dl_vlan than the first, so that they don't meet it; wherever they stand in the
-/// file, and whether or not they beat it.
+/// a wide entry that leads on, and up to 63 others anywhere in the file, most of
+/// which don't meet it, since their tag is another.
 pub fn crowded(rng: &mut Rng) -> Small {
     let in_ports = rng.between(1, 3);
     let ports = some_ports(rng, 2 * in_ports);
@@ -44,30 +43,25 @@ fn add_entries(rng: &mut Rng, fabric: &mut Fabric, way: [u16; 2], bits: &[u32]) 
     });
     let most = rng.one_of([6, 20, MOST_ENTRIES_PER_IN_PORT - 1]);
     for _ in 0..rng.between(1, most) {
-        let tag = match rng.once_in(8) {
-            true => OWN,
-            false => rng.below(7) as u128,
-        };
+        let other = rng.below(7) as u128;
+        let tag = if rng.once_in(8) { OWN } else { other };
+        let out_port = rng.one_of([0, 0, 0, out_port]);
         fabric.entries.push(Entry {
             matching: both(tagged(tag), set_over(rng, bits, 2)),
             rewrite: rewrite_over(rng, bits, 2),
-            ..entry(
-                rng.below(5) as u16,
-                in_port,
-                rng.one_of([0, 0, 0, out_port]),
-            )
+            ..entry(rng.below(5) as u16, in_port, out_port)
         });
     }
 }
 
-/// The last bits of dl_vlan, by which entries are told apart.
+/// The last three bits of dl_vlan are an entry's tag.
 const TAG_BITS: Range<u32> = 16..19;
-/// The tag of entries that lead on.
-const OWN: u128 = 0b111;
+/// The tag of the entries that lead on.
+const OWN: u128 = 7;
 
 fn tagged(tag: u128) -> Set {
     Set {
-        care: 0b111 << TAG_BITS.start,
+        care: 7 << TAG_BITS.start,
         value: tag << TAG_BITS.start,
     }
 }

@@ -5,9 +5,9 @@ use crate::examples::entry;
 use crate::fabric::{Entry, Fabric, Link, MOST_ENTRIES_PER_IN_PORT};
 use crate::set::Set;
 
-const SWITCHES: u16 = 7;
-const START: u16 = 1;
-const TARGET: u16 = 2;
+pub(super) const SWITCHES: u16 = 7;
+pub(super) const START: u16 = 1;
+pub(super) const TARGET: u16 = 2;
 
 /// The deep ring: 512 entries at eight in-ports, a way of 16 hops, 62 or 63
 /// beaters at each, and 256 finds.
@@ -34,11 +34,11 @@ pub fn deep_ring() -> Benchmark {
     Benchmark::all_wild("deep ring", fabric, TARGET)
 }
 
-fn ring_in(switch: u16) -> u16 {
+pub(super) fn ring_in(switch: u16) -> u16 {
     10 + switch
 }
 
-fn ring_out(switch: u16) -> u16 {
+pub(super) fn ring_out(switch: u16) -> u16 {
     20 + switch
 }
 

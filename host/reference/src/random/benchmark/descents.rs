@@ -1,85 +1,81 @@
-//! The deepest descents.
+//! The deepest descents: 16 hops, and 62 or 63 beaters at each.
 
+use super::deep_ring::{ring_in, ring_out, START, SWITCHES, TARGET};
 use super::{deny, one_group, rewrite, Benchmark};
 use crate::examples::{entry, link};
 use crate::fabric::{Entry, MOST_ENTRIES_PER_IN_PORT};
 use crate::set::{Rewrite, Set};
 
-const SWITCHES: u16 = 7;
-const START: u16 = 1;
-const TARGET: u16 = 2;
-
-/// A way of 16 hops with 62 or 63 beaters at each, every one of which meets the
-/// part and leaves one part of it: all allows write the addresses, and each deny is
-/// on one address bit.
+/// Every beater meets the part and leaves one part of it: allows write the
+/// addresses, and each deny is for one address bit.
 pub fn every_beater_meets() -> Benchmark {
-    let allows = Allows {
-        matching: Set::ALL_WILD,
-        rewrite: rewrite([u32::MAX, u32::MAX, 0, 0], [0; 4]),
+    let descent = Descent {
+        name: "every beater meets",
+        allowed: Set::ALL_WILD,
+        written: rewrite([u32::MAX, u32::MAX, 0, 0], [0; 4]),
+        denied: |number| Set {
+            care: 1 << (64 + number),
+            value: 1 << (64 + number),
+        },
     };
-    descent("every beater meets", allows, |number| {
-        let address_bit = 1 << (64 + number);
-        Set {
-            care: address_bit,
-            value: address_bit,
-        }
-    })
+    descent.benchmark()
 }
 
-/// The same way, and no beater meets the part: denies are for one bit of nw_tos,
-/// allows for its opposite.
+/// No beater meets the part: denies are for one bit of nw_tos, allows for its
+/// opposite.
 pub fn no_beater_meets() -> Benchmark {
-    let allows = Allows {
-        matching: Set::of_words([0, 0, 0, 0x0100], [0; 4]),
-        rewrite: Rewrite::NONE,
+    let descent = Descent {
+        name: "no beater meets",
+        allowed: Set::of_words([0, 0, 0, 0x0100], [0; 4]),
+        written: Rewrite::NONE,
+        denied: |number| {
+            let tag = (number as u32) << 16;
+            Set::of_words([0, 0, 0, 0xffff_0100], [0, 0, 0, tag | 0x0100])
+        },
     };
-    descent("no beater meets", allows, |number| {
-        let tag = (number as u32) << 16;
-        Set::of_words([0, 0, 0, 0xffff_0100], [0, 0, 0, tag | 0x0100])
-    })
+    descent.benchmark()
 }
 
-/// What all entries have that don't drop.
-struct Allows {
-    matching: Set,
-    rewrite: Rewrite,
+/// What its allows match and write, and what its denies match, by number.
+struct Descent {
+    name: &'static str,
+    allowed: Set,
+    written: Rewrite,
+    denied: fn(usize) -> Set,
 }
 
-/// Seven switches in a ring; the start is before switch 1, and at switch 2 a packet
-/// may go on or leave, by two equals. So there are finds of 2, 9 and 16 hops.
-fn descent(name: &'static str, allows: Allows, denied: fn(usize) -> Set) -> Benchmark {
-    let mut fabric = one_group(START, TARGET);
-    let mut add_in_port = |in_port: u16, out_ports: &[u16]| {
-        fabric
-            .entries
-            .extend(out_ports.iter().map(|&out_port| Entry {
-                matching: allows.matching,
-                rewrite: allows.rewrite,
-                ..entry(1, in_port, out_port)
-            }));
-        let denies = MOST_ENTRIES_PER_IN_PORT - out_ports.len();
-        fabric
-            .entries
-            .extend((0..denies).map(|number| deny(2, in_port, denied(number))));
-    };
-    add_in_port(START, &[ring_out(1)]);
-    for switch in 1..=SWITCHES {
-        match switch {
-            2 => add_in_port(ring_in(2), &[ring_out(2), TARGET]),
-            _ => add_in_port(ring_in(switch), &[ring_out(switch)]),
+impl Descent {
+    /// The deep ring without laps: at switch 2 a packet may leave or go on, by two
+    /// equals. So the finds have 2, 9 and 16 hops.
+    fn benchmark(&self) -> Benchmark {
+        let mut fabric = one_group(START, TARGET);
+        fabric.entries.extend(self.entries(START, &[ring_out(1)]));
+        for switch in 1..=SWITCHES {
+            let (on, next) = (ring_out(switch), ring_in(switch % SWITCHES + 1));
+            let out_ports = if switch == 2 {
+                &[TARGET, on][..]
+            } else {
+                &[on]
+            };
+            let entries = self.entries(ring_in(switch), out_ports);
+            fabric.entries.extend(entries);
+            fabric.links.push(link(on, next));
         }
+        Benchmark::all_wild(self.name, fabric, TARGET)
     }
-    for switch in 1..=SWITCHES {
-        let next = switch % SWITCHES + 1;
-        fabric.links.push(link(ring_out(switch), ring_in(next)));
+
+    /// An allow to each of these, under as many denies as there can be.
+    fn entries<'a>(
+        &'a self,
+        in_port: u16,
+        out_ports: &'a [u16],
+    ) -> impl Iterator<Item = Entry> + 'a {
+        let allows = out_ports.iter().map(move |&out_port| Entry {
+            matching: self.allowed,
+            rewrite: self.written,
+            ..entry(1, in_port, out_port)
+        });
+        let numbers = out_ports.len()..MOST_ENTRIES_PER_IN_PORT;
+        allows.chain(numbers.map(move |number| deny(2, in_port, (self.denied)(number))))
     }
-    Benchmark::all_wild(name, fabric, TARGET)
-}
-
-fn ring_in(switch: u16) -> u16 {
-    10 + switch
-}
-
-fn ring_out(switch: u16) -> u16 {
-    20 + switch
 }

@@ -7,7 +7,7 @@ use crate::set::Set;
 
 const DENIES_PER_FIELD: u32 = 8;
 
-/// The names, and for each how many fields it has: one more than the one before.
+/// By the number of fields, from 1 on.
 const NAMES: [&str; 4] = [
     "denies on 1 field",
     "denies on 2 fields",
@@ -32,7 +32,7 @@ fn denies_on(fields: usize, name: &'static str) -> Benchmark {
     Benchmark::all_wild(name, fabric, target)
 }
 
-/// What is denied of each field, by number.
+/// The denies of each field, by number.
 const FIELDS: [fn(u32) -> Set; 4] = [
     |number| prefix_of(0, address(1, number as usize), 24),
     |number| prefix_of(1, address(2, number as usize), 24),

@@ -1,6 +1,6 @@
 //! One switch with random entries.
 
-use super::Benchmark;
+use super::{deny, Benchmark};
 use crate::examples::{edge, entry, tp_dst};
 use crate::fabric::{Entry, Fabric};
 use crate::random::parts::{address, both, prefix_of};
@@ -8,40 +8,45 @@ use crate::random::Rng;
 use crate::set::Set;
 
 const SEED: u64 = 2;
-const EDGES: usize = 10;
+const EDGES: u16 = 10;
 const ALLOWS: usize = 30;
 const DENIES: usize = 20;
+/// Of the allows, and as many above them of the denies.
+const PRIORITIES: u16 = 100;
 
 /// 500 random entries at the ten edges of one switch, all of one group. At each
 /// edge there are thirty allows, and twenty denies that beat them all.
 pub fn random_denies() -> Benchmark {
     let rng = &mut Rng::new(SEED);
-    let ports: Vec<u16> = (1..=EDGES as u16).collect();
     let mut fabric = Fabric::default();
-    for (place, &in_port) in ports.iter().enumerate() {
-        fabric.edges.push(edge(1, in_port));
-        for _ in 0..ALLOWS {
-            let out_port = ports[(place + rng.between(1, EDGES - 1)) % EDGES];
-            fabric.entries.push(Entry {
-                matching: wide_route(rng),
-                ..entry(priority(rng, 0), in_port, out_port)
-            });
-        }
-        for _ in 0..DENIES {
-            fabric.entries.push(Entry {
-                matching: flow(rng),
-                ..entry(priority(rng, PRIORITIES), in_port, 0)
-            });
-        }
+    for port in 1..=EDGES {
+        fabric.edges.push(edge(1, port));
+        fabric
+            .entries
+            .extend((0..ALLOWS).map(|_| random_allow(rng, port)));
+        fabric
+            .entries
+            .extend((0..DENIES).map(|_| random_deny(rng, port)));
     }
     rng.shuffle(&mut fabric.entries);
-    Benchmark::all_wild("random denies", fabric, ports[0])
+    Benchmark::all_wild("random denies", fabric, 1)
 }
 
-const PRIORITIES: u16 = 100;
+/// To any other edge.
+fn random_allow(rng: &mut Rng, in_port: u16) -> Entry {
+    let out_port = (in_port - 1 + rng.between(1, usize::from(EDGES) - 1) as u16) % EDGES + 1;
+    let matching = wide_route(rng);
+    let priority = rng.below(PRIORITIES.into()) as u16;
+    Entry {
+        matching,
+        ..entry(priority, in_port, out_port)
+    }
+}
 
-fn priority(rng: &mut Rng, lowest: u16) -> u16 {
-    lowest + rng.below(PRIORITIES.into()) as u16
+fn random_deny(rng: &mut Rng, in_port: u16) -> Entry {
+    let matching = flow(rng);
+    let priority = PRIORITIES + rng.below(PRIORITIES.into()) as u16;
+    deny(priority, in_port, matching)
 }
 
 /// A prefix of nw_dst and perhaps one of nw_src.

@@ -17,21 +17,26 @@ pub fn random_transit() -> Benchmark {
     let rng = &mut Rng::new(SEED);
     let mut fabric = Fabric::default();
     for switch in 0..SWITCHES {
+        let others = (0..SWITCHES).filter(|&other| other != switch);
         let mut ports = vec![edge_port(switch)];
-        fabric.edges.push(edge(1, edge_port(switch)));
-        for other in (0..SWITCHES).filter(|&other| other != switch) {
-            let (here, there) = (link_port(switch, other), link_port(other, switch));
-            fabric.links.push(link(here, there));
-            ports.push(here);
-        }
-        for &in_port in &ports {
-            for _ in 0..ENTRIES_PER_IN_PORT {
-                fabric.entries.push(random_entry(rng, in_port, &ports));
-            }
-        }
+        ports.extend(others.clone().map(|other| link_port(switch, other)));
+        fabric.edges.push(edge(1, ports[0]));
+        fabric
+            .links
+            .extend(others.map(|other| link(link_port(switch, other), link_port(other, switch))));
+        add_entries(rng, &mut fabric, &ports);
     }
     rng.shuffle(&mut fabric.entries);
     Benchmark::all_wild("random transit", fabric, edge_port(0))
+}
+
+/// Those of a switch with these ports.
+fn add_entries(rng: &mut Rng, fabric: &mut Fabric, ports: &[u16]) {
+    for &in_port in ports {
+        fabric
+            .entries
+            .extend((0..ENTRIES_PER_IN_PORT).map(|_| random_entry(rng, in_port, ports)));
+    }
 }
 
 fn edge_port(switch: u16) -> u16 {
