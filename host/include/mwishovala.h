@@ -9,8 +9,8 @@
  * that got a no, 1 to 13, the place is the number of the record's first word in
  * the file or 0, and every byte of the area stays.
  *
- * Stack: give a thread that makes calls FABRIC_STACK_BYTES at least. 392 KiB of
- * them were measured for the deepest fabric that is accepted, 48 KiB for a run,
+ * Stack: give a thread that makes calls FABRIC_STACK_BYTES at least. 416 KiB of
+ * them were measured for the deepest fabric that is accepted, 68 KiB for a run,
  * and the rest is margin. Where a call runs out of stack the process is killed.
  * Threads: the library has no state. Any number of calls may be made at once,
  * also on the same file, but each on an area of its own.

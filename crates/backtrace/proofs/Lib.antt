@@ -2,7 +2,8 @@ mod Steps
 mod Paths
 mod Tracings
 mod Places
-mod Stops
-mod Cuts
+mod Trying
 mod Carves
+mod Descents
+mod Stops
 mod Passing

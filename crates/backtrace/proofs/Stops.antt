@@ -7,14 +7,15 @@ use mathlib.Core.Path.{_≡_, refl, sym, ap, ap₂, _∙_}
 use Prim.Native.Nat.{ℕ, zero, suc, _+_, _-_, _≤_, _<_}
 use native.Mathlib.Omega.{arith}
 use borrow.Author.Tests.{le-leb, lt-leb, eq-eqb, ne-eqb}
-use lib.Dec.{eqb}
+use lib.Dec.{eqb, leb}
 use lib.ListN.{length, getD, set, drop}
 use Rattle.headers.specs.Bits.{positions, those}
 use Rattle.headers.specs.Sets.{Set}
 use Rattle.headers.specs.Forms.{setOf, maybeOf}
 use Rattle.headers.specs.declared.MaybeSet.{MaybeSet}
 use Rattle.headers.proofs.Answers.{maybe-none, maybe-some}
-use Rattle.forwarding.specs.Fabric.{outPortOf}
+use Rattle.records.specs.Records.{entryIn, entryPriority}
+use Rattle.forwarding.specs.Fabric.{inPortOf, outPortOf, outranks}
 use Rattle.forwarding.specs.BackTrace.{beaters}
 use Rattle.forwarding.specs.BackTrace as BackTrace
 use Rattle.forwarding.specs.Trace.{Event, unit, find, stop, fromPort, takenUp, carved}
@@ -22,18 +23,18 @@ use Rattle.model.specs.Model.{fabricIn}
 use Rattle.index.specs.Chains.{noEntry}
 use Rattle.index.specs.Index.{nextOut}
 use Rattle.index.proofs.Chained.{Next}
-use Rattle.entries.specs.Entries.{IsEntry, InChain, backFrom, NextBeater}
+use Rattle.entries.specs.Entries.{IsEntry, InChain, backFrom, rankedFrom}
 use Rattle.entries.proofs.Those.{from, from-here, from-end, from-skip}
-use Rattle.entries.proofs.Entries.{entries-few, back-is}
+use Rattle.entries.proofs.Entries.{entries-few, in-port-is, priority-is, back-is}
 use Rattle.entries.proofs.InChains.{chain-head, chain-next, next-in-chain}
-use Rattle.entries.proofs.Beaters.{beaters-all}
+use Rattle.entries.proofs.Ranked.{beaters-ranked}
 use Rattle.events.specs.Play.{play}
 use Rattle.events.specs.Asked.{budgetOf, floorOf, worldOf, playedOf, foundBy, findAt, UnitMade}
 use Rattle.backtrace.specs.Cycle.{Tracing, Traced, Kept, eventsAt, survivorEvents, eventsFrom}
 use Rattle.backtrace.proofs.Places.{port-events}
 use Rattle.backtrace.proofs.Steps.{run, play-find, play-on, play-ended, unit-goes-on, unit-ends}
 use Rattle.backtrace.proofs.Paths.{kept-same, kept-on, kept-pushed, pushed-drop}
-use Rattle.backtrace.proofs.Tracings.{after-unit, after-call}
+use Rattle.backtrace.proofs.Tracings.{after-unit, on-kept, after-call}
 
 -- ---- where no entry is taken up
 
@@ -53,10 +54,12 @@ at-edge {f} {ask} place d r path t counters₀ area₀ area l e two hops = recor
     there : eventsAt f place t hops (drop d path) ≡ find (findAt f (place - 4096) path d t) ∷ []
     there =
         ap
-        (λ (b : Bool). cond b (find (findAt f (place - 4096) path d t) ∷ []) (fromPort (fabricIn f) (stop (fabricIn f) hops) place (drop d path) t))
+        (λ (b : Bool). cond b (find (findAt f (place - 4096) path d t) ∷ [])
+        (fromPort (fabricIn f) (stop (fabricIn f) hops) place (drop d path) t))
         (le-leb 4096 place l)
 
-module _ {f ask index : List ℕ} {d : ℕ} {path counters area : List ℕ} (x : Tracing f ask index d path counters area) (place : ℕ) (t : Set) where
+module _ {f ask index : List ℕ} {d : ℕ} {path counters area : List ℕ} (x : Tracing f ask index d path counters area) (place : ℕ)
+    (t : Set) where
   nothing-played : (es : List Event) → es ≡ [] → Traced f ask es counters area 0 counters area
   unfolding play
   nothing-played es e = record {
@@ -86,10 +89,12 @@ module _ {f ask index : List ℕ} {d : ℕ} {path counters area : List ℕ} (x :
 -- the events that are left where entry e comes next, with so many hops left at its in-port
 unfoldable pub eventsLeft : List ℕ → ℕ → ℕ → List ℕ → Set → ℕ → List Event
 eventsLeft f place hops path t e =
-    flatMap (takenUp (fabricIn f) (stop (fabricIn f) hops) t path) (from (λ c. eqb (outPortOf (fabricIn f) c) place) (fabricIn f .entries) e)
+    flatMap (takenUp (fabricIn f) (stop (fabricIn f) hops) t path)
+    (from (λ c. eqb (outPortOf (fabricIn f) c) place) (fabricIn f .entries) e)
 
 -- entry e comes next: what is left to be played now is what was to be played at first
-pub record AtEntry (f ask index : List ℕ) (place : ℕ) (t : Set) (d : ℕ) (path₀ counters₀ area₀ : List ℕ) (e : ℕ) (path counters area : List ℕ) : Type 0 where
+pub record AtEntry (f ask index : List ℕ) (place : ℕ) (t : Set) (d : ℕ) (path₀ counters₀ area₀ : List ℕ) (e : ℕ)
+    (path counters area : List ℕ) : Type 0 where
   pub tracing : Tracing f ask index d path counters area
   pub hop-left : floorOf ask < d
   pub in-chain : InChain (outPortOf (fabricIn f)) (fabricIn f .entries) place e
@@ -100,7 +105,8 @@ pub record AtEntry (f ask index : List ℕ) (place : ℕ) (t : Set) (d : ℕ) (p
       ≡ run f ask (eventsAt f place t (d - floorOf ask) (drop d path₀)) counters₀ area₀
 
 -- where the chain goes on, none between has the out-port
-left-skips : (f : List ℕ) (place hops : ℕ) (path : List ℕ) (t : Set) (j r : ℕ) → Next (outPortOf (fabricIn f)) (fabricIn f .entries) place j r
+left-skips : (f : List ℕ) (place hops : ℕ) (path : List ℕ) (t : Set) (j r : ℕ) → Next (outPortOf (fabricIn f))
+    (fabricIn f .entries) place j r
     → eventsLeft f place hops path t j ≡ eventsLeft f place hops path t r
 unfolding eventsLeft
 left-skips f place hops path t j r n =
@@ -108,15 +114,18 @@ left-skips f place hops path t j r n =
     (from-skip (λ c. eqb (outPortOf (fabricIn f) c) place) (fabricIn f .entries) j r (n .low) (λ c l m k. ne-eqb _ _ (n .skipped c l m k)))
 
 -- at first all entries are left
-left-at-first : (f : List ℕ) (place hops : ℕ) (path : List ℕ) (t : Set) → stop (fabricIn f) (suc hops) place t path ≡ eventsLeft f place hops path t 0
+left-at-first : (f : List ℕ) (place hops : ℕ) (path : List ℕ) (t : Set) → stop (fabricIn f) (suc hops) place t path
+    ≡ eventsLeft f place hops path t 0
 unfolding eventsLeft stop
 left-at-first f place hops path t =
     ap
-    (λ (k : ℕ). flatMap (takenUp (fabricIn f) (stop (fabricIn f) hops) t path) (those (λ e. eqb (outPortOf (fabricIn f) e) place) (positions k 0)))
+    (λ (k : ℕ). flatMap (takenUp (fabricIn f) (stop (fabricIn f) hops) t path)
+    (those (λ e. eqb (outPortOf (fabricIn f) e) place) (positions k 0)))
     (let whole : fabricIn f .entries ≡ fabricIn f .entries - 0 = omega arith in whole)
 
 -- the loop begins with the first entry of the chain
-pub first-entry : {f ask index : List ℕ} {d : ℕ} {path counters area : List ℕ} → Tracing f ask index d path counters area → (place : ℕ) (t : Set) (floor e : ℕ)
+pub first-entry : {f ask index : List ℕ} {d : ℕ} {path counters area : List ℕ} → Tracing f ask index d path counters area → (place : ℕ)
+    (t : Set) (floor e : ℕ)
     → place < 4096 → (place ≡ 0 → ⊥) → floor ≡ floorOf ask → floor < d → e ≡ getD index (4096 + place) 0
     → AtEntry f ask index place t d path counters area e path counters area
 first-entry {f} {ask} {index} {d} {path} {counters} {area} x place t floor e l nz h m g = record {
@@ -167,7 +176,8 @@ module _ {f ask index : List ℕ} {place : ℕ} {t : Set} {d : ℕ} {path₀ cou
 
   -- the events of entry e after its unit, by what it takes back
   abbrev taken : Option Set → List Event
-  taken o = Option·elim o [] (carved (fabricIn f) (survivorEvents f e hops (e ∷ drop d path₀)) (beaters (fabricIn f) e))
+  taken o = Option·elim o []
+      (carved (fabricIn f) (survivorEvents f (inPortOf (fabricIn f) e) hops (e ∷ drop d path₀)) (beaters (fabricIn f) e))
 
   -- what keeps the path with e on it keeps the path
   pub kept-under : {path₁ : List ℕ} → path₁ ≡ set path (d - 1) e → {path₂ : List ℕ} → Kept (d - 1) path₁ path₂ → Kept d path path₂
@@ -175,7 +185,8 @@ module _ {f ask index : List ℕ} {place : ℕ} {t : Set} {d : ℕ} {path₀ cou
 
   module _ (l : e < noEntry) where
     next-entry : {n : ℕ} → n ≡ getD index (nextOut + e) 0 → Next (outPortOf (fabricIn f)) (fabricIn f .entries) place (suc e) n
-    next-entry {n} g = rw (x .in-chain .has-port l) at (chain-next few (x .tracing .indexed .by-out-port) e n (x .in-chain .is-entry l) g)
+    next-entry {n} g = rw (x .in-chain .has-port l) at
+        (chain-next few (x .tracing .indexed .by-out-port) e n (x .in-chain .of-chain .is-entry l) g)
 
     pub later-entry : {n : ℕ} → n ≡ getD index (nextOut + e) 0 → e < n
     later-entry g = next-entry g .low
@@ -184,7 +195,8 @@ module _ {f ask index : List ℕ} {place : ℕ} {t : Set} {d : ℕ} {path₀ cou
     unfolding eventsLeft flatMap takenUp
     left-is =
         ap (flatMap (takenUp (fabricIn f) (stop (fabricIn f) hops) t (drop d path₀)))
-        (from-here (λ c. eqb (outPortOf (fabricIn f) c) place) (fabricIn f .entries) e (x .in-chain .is-entry l) (eq-eqb _ _ (x .in-chain .has-port l)))
+        (from-here (λ c. eqb (outPortOf (fabricIn f) c) place) (fabricIn f .entries) e (x .in-chain .of-chain .is-entry l)
+        (eq-eqb _ _ (x .in-chain .has-port l)))
 
     module _ {made : Bool} {counters₁ : List ℕ} (u : UnitMade ask counters made counters₁) where
       -- the budget is used
@@ -199,40 +211,53 @@ module _ {f ask index : List ℕ} {place : ℕ} {t : Set} {d : ℕ} {path₀ cou
         after-its-unit : run f ask (taken (backFrom y t) ++ left-from (suc e)) counters₁ area ≡ run f ask all-events counters₀ area₀
         after-its-unit =
             unit-goes-on (foundBy f ask) u area _ h
-            ∙ ap (λ (o : Option Set). run f ask (unit ∷ (taken o ++ left-from (suc e))) counters area) (sym (back-is (x .tracing .asked .fabric) i t))
+            ∙ ap (λ (o : Option Set). run f ask (unit ∷ (taken o ++ left-from (suc e))) counters area)
+            (sym (back-is (x .tracing .asked .fabric) i t))
             ∙ ap (λ (es : List Event). run f ask es counters area) (sym left-is)
             ∙ x .left
 
-        -- it takes nothing back
-        pub entry-empty : m .some ≡ false → {n : ℕ} → n ≡ getD index (nextOut + e) 0 → AtEntry f ask index place t d path₀ counters₀ area₀ n path counters₁ area
+        -- it takes nothing back; it may stand on the path already
+        pub entry-empty : m .some ≡ false → {n : ℕ} → n ≡ getD index (nextOut + e) 0 → {path₁ : List ℕ} → Kept d path path₁
+            → AtEntry f ask index place t d path₀ counters₀ area₀ n path₁ counters₁ area
         unfolding Option·elim
-        entry-empty z {n} g = record {
-          tracing = after-unit (x .tracing) u;
+        entry-empty z {n} g k = record {
+          tracing = on-kept (after-unit (x .tracing) u) k;
           hop-left = x .hop-left;
           in-chain = next-in-chain few (next-entry g);
           area-long = x .area-long;
-          kept = x .kept;
+          kept = kept-on (x .kept) k;
           left =
-              ap (λ (es : List Event). run f ask es counters₁ area) (sym (left-skips f place hops (drop d path₀) t (suc e) n (next-entry g)))
+              ap (λ (es : List Event). run f ask es counters₁ area)
+              (sym (left-skips f place hops (drop d path₀) t (suc e) n (next-entry g)))
               ∙ ap (λ (o : Option Set). run f ask (taken o ++ left-from (suc e)) counters₁ area) (sym (maybe-none (backFrom y t) m back z))
               ∙ after-its-unit;
         }
 
-        -- it takes a set back, which is carved with the entry on the path
-        module _ (some-back : m .some ≡ true) {path₁ : List ℕ} (pushed : path₁ ≡ set path (d - 1) e) {b : ℕ} (first : NextBeater (fabricIn f) e 0 b)
-            {r : ℕ} {counters₂ area₂ : List ℕ}
-            (w : Traced f ask (eventsFrom f e b hops (drop (d - 1) path₁) (setOf (m .set))) counters₁ area r counters₂ area₂) where
+        -- it takes a set back, which is tried and carved with the entry on the path
+        module _ (some-back : m .some ≡ true) {path₁ : List ℕ} (pushed : path₁ ≡ set path (d - 1) e) {port : ℕ} (q : ℕ)
+            (is-port : port ≡ entryIn y)
+            (least : (p : ℕ) → leb q p ≡ outranks p (entryPriority y)) {r : ℕ} {counters₂ area₂ : List ℕ}
+            (w : Traced f ask (eventsFrom f port q 0 hops (drop (d - 1) path₁) (setOf (m .set))) counters₁ area r counters₂ area₂) where
           path-begins : drop (d - 1) path₁ ≡ e ∷ drop d path₀
           path-begins =
               ap (drop (d - 1)) pushed
               ∙ pushed-drop path d e (let z = x .hop-left in omega arith) (x .tracing .on-path .long) (x .tracing .on-path .within)
               ∙ ap (λ (p : List ℕ). e ∷ p) (x .kept .later)
 
-          entry-events : eventsFrom f e b hops (drop (d - 1) path₁) (setOf (m .set)) ≡ taken (backFrom y t)
+          in-port : port ≡ inPortOf (fabricIn f) e
+          in-port = is-port ∙ sym (in-port-is (x .tracing .asked .fabric) i)
+
+          tried-by : rankedFrom (fabricIn f) port q 0 ≡ beaters (fabricIn f) e
+          tried-by =
+              ap (λ (y : ℕ). rankedFrom (fabricIn f) y q 0) in-port
+              ∙ sym (beaters-ranked (fabricIn f) e q (λ p. least p ∙ ap (outranks p) (sym (priority-is (x .tracing .asked .fabric) i))))
+
+          entry-events : eventsFrom f port q 0 hops (drop (d - 1) path₁) (setOf (m .set)) ≡ taken (backFrom y t)
           unfolding eventsFrom Option·elim
           entry-events =
-              ap₂ (λ (p bs : List ℕ). carved (fabricIn f) (survivorEvents f e hops p) bs (setOf (m .set)))
-              path-begins (sym (beaters-all first))
+              ap₂ (λ (p bs : List ℕ). carved (fabricIn f) (survivorEvents f port hops p) bs (setOf (m .set))) path-begins tried-by
+              ∙ ap (λ (y : ℕ). carved (fabricIn f) (survivorEvents f y hops (e ∷ drop d path₀)) (beaters (fabricIn f) e)
+              (setOf (m .set))) in-port
               ∙ ap taken (sym (maybe-some (backFrom y t) m back some-back))
 
           played : playedOf r counters₂ area₂ ≡ run f ask (taken (backFrom y t)) counters₁ area
@@ -241,12 +266,14 @@ module _ {f ask index : List ℕ} {place : ℕ} {t : Set} {d : ℕ} {path₀ cou
           pub entry-ended : (r ≡ 0 → ⊥) → Traced f ask all-events counters₀ area₀ r counters₂ area₂
           entry-ended nz = record {
             played =
-                play-ended (budgetOf ask) (foundBy f ask) (taken (backFrom y t)) (left-from (suc e)) (worldOf counters₁ area) (worldOf counters₂ area₂) r nz played
+                play-ended (budgetOf ask) (foundBy f ask) (taken (backFrom y t)) (left-from (suc e)) (worldOf counters₁ area)
+                (worldOf counters₂ area₂) r nz played
                 ∙ after-its-unit;
             counters-long = w .counters-long;
           }
 
-          pub entry-through : r ≡ 0 → {n : ℕ} → n ≡ getD index (nextOut + e) 0 → {path₂ : List ℕ} → Kept (d - 1) path₁ path₂ → length area₂ ≡ length area
+          pub entry-through : r ≡ 0 → {n : ℕ} → n ≡ getD index (nextOut + e) 0 → {path₂ : List ℕ} → Kept (d - 1) path₁ path₂
+              → length area₂ ≡ length area
               → AtEntry f ask index place t d path₀ counters₀ area₀ n path₂ counters₂ area₂
           entry-through z {n} g {path₂} k a = record {
             tracing = after-call (after-unit (x .tracing) u) w (kept-under pushed k) a;
@@ -255,8 +282,10 @@ module _ {f ask index : List ℕ} {place : ℕ} {t : Set} {d : ℕ} {path₀ cou
             area-long = a ∙ x .area-long;
             kept = kept-on (x .kept) (kept-under pushed k);
             left =
-                ap (λ (es : List Event). run f ask es counters₂ area₂) (sym (left-skips f place hops (drop d path₀) t (suc e) n (next-entry g)))
-                ∙ play-on (budgetOf ask) (foundBy f ask) (taken (backFrom y t)) (left-from (suc e)) (worldOf counters₁ area) (worldOf counters₂ area₂)
+                ap (λ (es : List Event). run f ask es counters₂ area₂)
+                (sym (left-skips f place hops (drop d path₀) t (suc e) n (next-entry g)))
+                ∙ play-on (budgetOf ask) (foundBy f ask) (taken (backFrom y t)) (left-from (suc e)) (worldOf counters₁ area)
+                (worldOf counters₂ area₂)
                 (ap (λ (s : ℕ). playedOf s counters₂ area₂) (sym z) ∙ played)
                 ∙ after-its-unit;
           }

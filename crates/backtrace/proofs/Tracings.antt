@@ -25,9 +25,19 @@ module _ {f ask index : List ℕ} {d : ℕ} {path counters area : List ℕ} (t :
     on-path = t .on-path;
     room = record {
       counters-long = u .counters-long;
-      made-within = rw (ap (λ (p : Played). p .world .made) (u .played area)) (unit-within (budgetOf ask) (worldOf counters area) (t .room .made-within));
+      made-within = rw (ap (λ (p : Played). p .world .made) (u .played area))
+          (unit-within (budgetOf ask) (worldOf counters area) (t .room .made-within));
       verdict-room = t .room .verdict-room;
     };
+  }
+
+  pub on-kept : {path′ : List ℕ} → Kept d path path′ → Tracing f ask index d path′ counters area
+  on-kept k = record {
+    asked = t .asked;
+    indexed = t .indexed;
+    above-floor = t .above-floor;
+    on-path = path-kept (t .on-path) k;
+    room = t .room;
   }
 
   pub after-call : {events : List Event} {r : ℕ} {path′ counters′ area′ : List ℕ} → Traced f ask events counters area r counters′ area′
@@ -46,7 +56,8 @@ module _ {f ask index : List ℕ} {d : ℕ} {path counters area : List ℕ} (t :
     };
   }
 
-  pub after-push : {e : ℕ} {path′ : List ℕ} → floorOf ask < d → e < 512 → path′ ≡ set path (d - 1) e → Tracing f ask index (d - 1) path′ counters area
+  pub after-push : {e : ℕ} {path′ : List ℕ} → floorOf ask < d → e < 512 → path′ ≡ set path (d - 1) e → Tracing f ask index
+      (d - 1) path′ counters area
   after-push {e} below l h = record {
     asked = t .asked;
     indexed = t .indexed;

@@ -1,20 +1,22 @@
 -- What the code of the trace promises: `stop` and `carve`, which call each other, and their leaves. Assumes nothing.
 use mathlib.Core.Bool.{cond}
-use mathlib.Core.List.{List, [], _∷_}
+use mathlib.Core.List.{List, [], _∷_, flatMap}
 use mathlib.Core.Path.{_≡_}
-use Prim.Native.Nat.{ℕ, _-_, _≤_}
+use Prim.Native.Nat.{ℕ, suc, _-_, _≤_, _<_}
 use lib.Dec.{leb}
-use lib.ListN.{length, drop}
+use lib.ListN.{length, getD, drop}
 use Rattle.headers.specs.Sets.{Set}
+use Rattle.headers.specs.Carving.{carve}
 use Rattle.records.specs.Records.{portOfEdge}
 use Rattle.file.specs.Accepted.{HasEdge}
-use Rattle.forwarding.specs.Fabric.{inPortOf}
-use Rattle.forwarding.specs.Trace.{Event, find, stop, fromPort, carved, atInPort}
+use Rattle.forwarding.specs.Trace.{Event, unit, find, stop, fromPort, carved, atInPort}
 use Rattle.model.specs.Model.{fabricIn}
+use Rattle.index.specs.Chains.{noEntry}
 use Rattle.index.specs.Index.{Index}
-use Rattle.entries.specs.Entries.{beatersFrom}
+use Rattle.entries.specs.Entries.{rankedFrom}
 use Rattle.events.specs.Play.{play}
 use Rattle.events.specs.Asked.{Asked, Path, Room, budgetOf, floorOf, worldOf, playedOf, foundBy}
+use Rattle.trials.specs.Trials.{Ending, met, past, used, Met}
 
 -- ---- what the trace has in hand
 
@@ -51,12 +53,27 @@ eventsAt f place t hops path =
     (find (record { port = portOfEdge f (place - 4096); path = path; set = t }) ∷ [])
     (fromPort (fabricIn f) (stop (fabricIn f) hops) place path t)
 
--- ---- parts of an entry's headers
+-- ---- parts at an in-port x
 
--- the events of a part of entry e's headers that no beater took, with so many hops left at e's in-port
+-- the events of a part that no entry took there, with so many hops left
 abbrev pub survivorEvents : List ℕ → ℕ → ℕ → List ℕ → Set → List Event
-survivorEvents f e hops path = atInPort (fabricIn f) (stop (fabricIn f) hops) (inPortOf (fabricIn f) e) path
+survivorEvents f x hops path = atInPort (fabricIn f) (stop (fabricIn f) hops) x path
 
--- the events of such a part that is yet to be tried against the beaters from entry b on
-unfoldable pub eventsFrom : List ℕ → ℕ → ℕ → ℕ → List ℕ → Set → List Event
-eventsFrom f e b hops path p = carved (fabricIn f) (survivorEvents f e hops path) (beatersFrom (fabricIn f) e b) p
+-- the events of a part that is yet to be tried against the entries from j on of priority q or higher
+unfoldable pub eventsFrom : List ℕ → ℕ → ℕ → ℕ → ℕ → List ℕ → Set → List Event
+eventsFrom f x q j hops path p = carved (fabricIn f) (survivorEvents f x hops path) (rankedFrom (fabricIn f) x q j) p
+
+-- the events of the parts that entry b leaves of a part
+unfoldable pub eventsCut : List ℕ → ℕ → ℕ → ℕ → ℕ → List ℕ → Set → List Event
+eventsCut f x q b hops path p = flatMap (eventsFrom f x q (suc b) hops path) (carve (fabricIn f .words) p (fabricIn f .entry b .matches))
+
+-- the events that are left of a part, by how its trials ended: where the budget is used, the unit that it doesn't have
+abbrev pub eventsAfter : List ℕ → ℕ → ℕ → Ending → ℕ → List ℕ → Set → List Event
+eventsAfter f x q (met b) hops path p = eventsCut f x q b hops path p
+eventsAfter f x q past hops path p = survivorEvents f x hops path p
+eventsAfter f x q used hops path p = unit ∷ []
+
+-- r is the number of the part's trials' ending: a lower one than 'none' is an entry that it meets, with a higher one the budget is used
+pub record Ended (f ask : List ℕ) (x : ℕ) (p : Set) (counters : List ℕ) (r : ℕ) : Type 0 where
+  pub entry-met : r < noEntry → Met (fabricIn f) x p r
+  pub budget-used : noEntry < r → budgetOf ask ≤ getD counters 0 0

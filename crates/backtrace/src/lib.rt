@@ -1,8 +1,11 @@
-// The back-trace: document 01, "The back-trace and its count". `stop` and `carve` call each other, and what they promise is that they
-// play the events of the trace (specs/Cycle.antt). What is done with an event is in `events`, what an entry gives in `entries`.
+// The back-trace: document 01, "The back-trace and its count". `stop` and `carve` call each other, by `descend`, and what they promise is
+// that they play the events of the trace (specs/Cycle.antt). What is done with an event is in `events`, what an entry gives in `entries`,
+// and where a part goes next in `trials`.
 // They are handed an index of the file, so that they read no entry but those of the chain in hand, and references to the caller's
 // path and counters, so that a level of the descent copies no state.
 use headers::HeaderSet;
+use index::CELLS;
+use index::FIRST_EDGE;
 use index::NO_ENTRY;
 use records::Shape;
 ghost use mathlib.Core.Bool.{true};
@@ -14,12 +17,12 @@ ghost use Rattle.questions.specs.Tables.{EdgeTable};
 ghost use Rattle.file.specs.Accepted.{Accepted};
 ghost use Rattle.model.specs.Model.{fabricIn, entriesAt};
 ghost use Rattle.index.specs.Index.{Index};
-ghost use Rattle.entries.specs.Entries.{IsEntry, IsBeater};
 ghost use Rattle.events.specs.Asked.{floorOf};
-ghost use Rattle.backtrace.specs.Cycle.{Tracing, Traced, Kept, IsPlace, eventsAt, eventsFrom};
+ghost use Rattle.trials.specs.Trials.{Met, endingAt};
+ghost use Rattle.backtrace.specs.Cycle.{Tracing, Traced, Kept, IsPlace, Ended, eventsAt, eventsCut, eventsAfter};
 ghost use Rattle.backtrace.specs.Pass.{playedThen, passOf};
 
-// How a pass ended (0 through, 1 the budget was used, 2 the verdict stops, 3 no room), the units made and the words of the finds.
+// How a pass ended (0 through, 1 the budget was used, 2 the verdict stops), the units made and the words of the finds.
 pub struct Passed {
     pub status: u32,
     pub made: u64,
@@ -30,9 +33,6 @@ pub struct Passed {
 const FLOOR: usize = 2;
 
 const BASE: usize = 5;
-
-// A place from here on stands for an edge.
-const FIRST_EDGE: usize = 4096;
 
 // ---- the path
 
@@ -48,10 +48,11 @@ fn push(path: &mut [u32; 16], k: usize, e: usize)
 
 // "carving hands each surviving part back to the stop": a part t that came to stand at `place`, with d places of the path free; those
 // from place d on lead from there to the target. 0: the trace goes on, 1: the budget was used, else as `found` says.
-fn stop<'a>(
-    file: &'a [u8],
+// An entry that neither copies nor swaps addresses goes by itself, which the compiler makes vector code of.
+fn stop(
+    file: &[u8],
     ask: &[u32; 6],
-    index: &[u16; 13312],
+    index: &[u16; CELLS],
     area: &mut [u8],
     place: usize,
     t: HeaderSet,
@@ -80,15 +81,58 @@ fn stop<'a>(
             return 1;
         }
         let x = entries::entry_at(file, base, e);
-        let m = entries::before(x, t);
+        let u = entries::unwritten(x, t);
         let next = index::next_out(index, e);
-        if m.some {
-            let p = m.set;
+        if u.some {
+            let s = u.set;
+            let port = records::in_port(x) as usize;
+            let least = model::least_above(records::priority(x));
+            let first = index::first_in(index, port);
             push(path, d - 1, e);
-            let b = entries::first_beater(file, base, index, x, e);
-            let r = carve(file, ask, index, area, x, e, b, p, d - 1, path, counters);
-            if r != 0 {
-                return r;
+            if entries::keeps(x) {
+                let m = entries::met(x, s);
+                if m.some {
+                    let p = m.set;
+                    let b = trials::next_met(file, ask, base, index, least, first, p, counters);
+                    let r = descend(
+                        file,
+                        ask,
+                        index,
+                        area,
+                        port,
+                        least,
+                        b,
+                        p,
+                        d - 1,
+                        path,
+                        counters,
+                    );
+                    if r != 0 {
+                        return r;
+                    }
+                }
+            } else {
+                let m = entries::met_before(x, s);
+                if m.some {
+                    let p = m.set;
+                    let b = trials::next_met(file, ask, base, index, least, first, p, counters);
+                    let r = descend(
+                        file,
+                        ask,
+                        index,
+                        area,
+                        port,
+                        least,
+                        b,
+                        p,
+                        d - 1,
+                        path,
+                        counters,
+                    );
+                    if r != 0 {
+                        return r;
+                    }
+                }
             }
         }
         e = next;
@@ -96,15 +140,45 @@ fn stop<'a>(
     0
 }
 
-// "each part is then tried against the next beater": part p of entry e's headers, tried against its beaters from b on. The path from
-// place d on begins with e.
-fn carve<'a>(
-    file: &'a [u8],
+// A part p at an in-port whose trials ended at b: on to the parts that entry b leaves of it, or back to the stop, if no entry was met; what
+// is met has at least this priority. The path from place d on begins with the entry that p is taken back by.
+fn descend(
+    file: &[u8],
     ask: &[u32; 6],
-    index: &[u16; 13312],
+    index: &[u16; CELLS],
     area: &mut [u8],
-    x: &'a [u8],
-    e: usize,
+    port: usize,
+    least: u32,
+    b: usize,
+    p: HeaderSet,
+    d: usize,
+    path: &mut [u32; 16],
+    counters: &mut [u64; 2],
+) -> u32
+    requires { ⌜ Tracing (now file) (now ask) (now index) d (now path) (now counters) (now area) ⌝ }
+    requires { ⌜ port < 4096 ⌝ }
+    requires { ⌜ Ended (now file) (now ask) port (setOf p) (now counters) b ⌝ }
+    ensures { λ r. ⌜ Traced (now (file .entry)) (now (ask .entry)) (eventsAfter (now (file .entry)) port least (endingAt b) (d - floorOf (now (ask .entry))) (drop d (now (path .entry))) (setOf p)) (now (counters .entry)) (now (area .entry)) r (now (counters .exit)) (now (area .exit)) ⌝ }
+    ensures { λ _. ⌜ Kept d (now (path .entry)) (now (path .exit)) ⌝ }
+{
+    if b < NO_ENTRY {
+        return carve(file, ask, index, area, port, least, b, p, d, path, counters);
+    }
+    if b == NO_ENTRY {
+        let place = index::place_at(index, port);
+        return stop(file, ask, index, area, place, p, d, path, counters);
+    }
+    1
+}
+
+// "each part is then tried against the next beater": the parts that entry b, which p meets, leaves of it.
+fn carve(
+    file: &[u8],
+    ask: &[u32; 6],
+    index: &[u16; CELLS],
+    area: &mut [u8],
+    port: usize,
+    least: u32,
     b: usize,
     mut p: HeaderSet,
     d: usize,
@@ -112,40 +186,56 @@ fn carve<'a>(
     counters: &mut [u64; 2],
 ) -> u32
     requires { ⌜ Tracing (now file) (now ask) (now index) d (now path) (now counters) (now area) ⌝ }
-    requires { ⌜ IsEntry (now file) e (now x) ⌝ }
-    requires { ⌜ IsBeater (fabricIn (now file)) e b ⌝ }
-    ensures { λ r. ⌜ Traced (now (file .entry)) (now (ask .entry)) (eventsFrom (now (file .entry)) e b (d - floorOf (now (ask .entry))) (drop d (now (path .entry))) (setOf p)) (now (counters .entry)) (now (area .entry)) r (now (counters .exit)) (now (area .exit)) ⌝ }
+    requires { ⌜ port < 4096 ⌝ }
+    requires { ⌜ Met (fabricIn (now file)) port (setOf p) b ⌝ }
+    ensures { λ r. ⌜ Traced (now (file .entry)) (now (ask .entry)) (eventsCut (now (file .entry)) port least b (d - floorOf (now (ask .entry))) (drop d (now (path .entry))) (setOf p)) (now (counters .entry)) (now (area .entry)) r (now (counters .exit)) (now (area .exit)) ⌝ }
     ensures { λ _. ⌜ Kept d (now (path .entry)) (now (path .exit)) ⌝ }
 {
-    if b == NO_ENTRY {
-        let port = records::in_port(x) as usize;
-        let place = index::place_at(index, port);
-        return stop(file, ask, index, area, place, p, d, path, counters);
-    }
-    if !events::unit(ask, counters) {
-        return 1;
-    }
     let base = events::asked(ask, BASE);
     let m = entries::match_at(file, base, b);
-    let next = entries::beater_after(file, base, index, x, e, b);
-    if !p.overlaps(m) {
-        return carve(file, ask, index, area, x, e, next, p, d, path, counters);
-    }
-    loop {
-        let cut = p.next_part(m);
-        if !cut.some {
-            return 0;
+    let next = index::next_in(index, b);
+    let mut free = p.free(m);
+    while !headers::none_set(free) {
+        let bit = headers::first_bit(free);
+        let part = p.unlike(bit, m);
+        let later = headers::outside(bit, free);
+        let k = trials::next_met(file, ask, base, index, least, next, part, counters);
+        // the usual case: with no bit left this is the last part, and nothing is read after its descent
+        if headers::none_set(later) {
+            return descend(
+                file,
+                ask,
+                index,
+                area,
+                port,
+                least,
+                k,
+                part,
+                d,
+                path,
+                counters,
+            );
         }
-        let part = cut.part;
-        if cut.last {
-            return carve(file, ask, index, area, x, e, next, part, d, path, counters);
-        }
-        let r = carve(file, ask, index, area, x, e, next, part, d, path, counters);
+        let r = descend(
+            file,
+            ask,
+            index,
+            area,
+            port,
+            least,
+            k,
+            part,
+            d,
+            path,
+            counters,
+        );
         if r != 0 {
             return r;
         }
-        p = cut.rest;
+        p = p.like(bit, m);
+        free = later;
     }
+    0
 }
 
 // ---- a pass: "The first stop is the target with the limit."
@@ -169,13 +259,13 @@ fn entries_at(file: &[u8], shape: Shape) -> u32
     (4 * records::place(shape.edges, shape.links, 0)) as u32
 }
 
-// One pass: the finds are counted, listed or judged, as the mode says.
+// One pass: the finds are listed or judged, as the mode says.
 pub fn pass(
     file: &[u8],
     area: &mut [u8],
     shape: Shape,
     edge_of: &[u16; 4096],
-    index: &[u16; 13312],
+    index: &[u16; CELLS],
     mode: u32,
     target: u32,
     limit: u32,

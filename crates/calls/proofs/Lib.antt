@@ -2,3 +2,4 @@ pub mod Asking
 mod MoreAsked
 mod Judging
 mod Listing
+mod Copying

@@ -1,29 +1,32 @@
--- The list's passes: the first counts the words of all finds, at most 3,225 for each unit made, and the second writes them. Assumes nothing.
-use mathlib.Core.Bool.{Bool, true, false, _&&_, cond, false≢true}
+-- The list: its passes, which have at most 3,225 words for each unit made, and what is answered by them. Assumes nothing.
+use mathlib.Core.Bool.{Bool, true, false, cond}
 use mathlib.Core.List.{List, [], _∷_, _++_, map, flatMap}
 use mathlib.Core.Option.{Option, some, none, bind, Option·elim}
-use mathlib.Core.Path.{_≡_, refl, sym, ap, _∙_, subst}
-use Prim.Native.Nat.{ℕ, zero, suc, _+_, _*_, _^_, _≤_, _<_}
-use native.Mathlib.Numerals.{add-one}
+use mathlib.Core.Path.{_≡_, refl, sym, ap, ap₂, _∙_, subst}
+use Prim.Native.Nat.{ℕ, zero, suc, _+_, _*_, _/_, _^_, _≤_, _<_}
 use native.Mathlib.Omega.{arith}
-use borrow.Author.Tests.{leb-true, ltb-false}
-use lib.Dec.{eqb, ltb, leb}
+use borrow.Author.Tests.{leb-true, le-leb, lt-leb}
+use lib.Dec.{eqb, leb}
 use lib.ListN.{length, length-append, length-map}
 use Rattle.headers.specs.Bits.{bitAt, positions, keepIf, those, setBits}
 use Rattle.headers.specs.Sets.{Set, overlaps, joined, intersection}
 use Rattle.headers.specs.Carving.{free, like, partsAt, parts, carve, Each}
 use Rattle.headers.proofs.Positions.{words-long}
-use Rattle.answer.specs.Answer.{writtenAt}
+use Rattle.answer.specs.Answer.{Outcome, outcome, answered, writtenAt}
+use Rattle.questions.specs.Questions.{pick, Question, _asks_, firstNo}
 use Rattle.forwarding.specs.Fabric.{Fabric, inPortOf, outPortOf, entriesWhere, undoes}
 use Rattle.forwarding.specs.BackTrace.{back, beaters}
-use Rattle.forwarding.specs.Trace.{Event, unit, find, carved, fromPort, atInPort, takenUp, stop, trace, units, finds}
-use Rattle.forwarding.specs.Verdict.{endsWithin}
+use Rattle.forwarding.specs.Trace.{Event, unit, find, carved, fromPort, atInPort, takenUp, stop, units, finds}
 use Rattle.forwarding.proofs.Budget.{ends-within}
 use Rattle.model.specs.Model.{fabricOf, fabricIn}
-use Rattle.events.specs.Play.{World, Played, andThen, unitMade, makeUnit, step, play, findWords, tooMany, countedOn, counted, listWords}
-use Rattle.events.proofs.ListPlayed.{counted-all, counted-stops, listed-all}
+use Rattle.events.specs.Play.{Played, findWords, listWords}
+use Rattle.events.proofs.ListPlayed.{wordsOf, ListedAll, listed-all, listed-stops}
 use Rattle.backtrace.specs.Pass.{begin, playedThen, passOf}
 use Rattle.backtrace.specs.declared.Passed.{Passed}
+use Rattle.calls.specs.Questions.{Query, targetQuestions, orRefused}
+use Rattle.calls.specs.List.{traceAsked, wordsAsked, listQuestions}
+use Rattle.calls.proofs.Asking.{target-numbered, no-answered, yes-answered}
+use Rattle.calls.proofs.MoreAsked.{first-no-more, first-no-said}
 
 -- ---- carving leaves few parts, of as many words
 
@@ -72,10 +75,6 @@ carve-sized n p b s = go (overlaps n p b)
     go false = (s, tt)
 
 -- ---- so a trace has few words for each unit: 25 for each of at most 129 parts
-
--- the words of the finds among events
-abbrev wordsOf : List Event → ℕ
-wordsOf es = length (listWords (finds es))
 
 words-append : (a b : List Event) → wordsOf (a ++ b) ≡ wordsOf a + wordsOf b
 unfolding finds listWords
@@ -177,60 +176,92 @@ four-words f = refl
 
 -- ---- the passes
 
--- a count of words that stays under the limit is exact
-exact : (budget : ℕ) (es : List Event) (w : World) → endsWithin budget (w .made) es ≡ true → w .words + wordsOf es < tooMany
-    → play budget counted es w .world .words ≡ w .words + wordsOf es
-unfolding endsWithin play step makeUnit counted finds listWords
-exact budget [] w e low = omega arith
-exact budget (unit ∷ es) w e low = go (ltb (w .made) budget) e (exact budget es)
-  where
-    go : (b : Bool) → (b && endsWithin budget (suc (w .made)) es) ≡ true
-        → ((w : World) → endsWithin budget (w .made) es ≡ true → w .words + wordsOf es < tooMany → play budget counted es w .world .words ≡ w .words + wordsOf es)
-        → andThen (unitMade b w) (play budget counted es) .world .words ≡ w .words + wordsOf es
-    go true d ih = ih (record { made = w .made + 1; words = w .words; area = w .area }) (subst (λ (k : ℕ). endsWithin budget k es ≡ true) (sym (add-one (w .made))) d) low
-    go false d ih = absurd (false≢true d)
-exact budget (find d ∷ es) w e low = go (ltb (w .words) tooMany) refl (λ n. exact budget es (record { made = w .made; words = n; area = w .area }) e)
-  where
-    go : (b : Bool) → ltb (w .words) tooMany ≡ b
-        → ((n : ℕ) → n + wordsOf es < tooMany → play budget counted es (record { made = w .made; words = n; area = w .area }) .world .words ≡ n + wordsOf es)
-        → play budget counted es (record { made = w .made; words = countedOn b (w .words) (length (findWords d)); area = w .area }) .world .words
-        ≡ w .words + length (findWords d ++ listWords (finds es))
-    go true t ih = let n = length-append (findWords d) (listWords (finds es)) in omega (arith, ih (w .words + length (findWords d)) (omega (arith, n)), n)
-    go false t ih = absurd (let y : ⊥ = omega (arith, ltb-false (w .words) tooMany t) in y)
+-- 13. "Did the back-trace end within the budget?"
+abbrev pub withinBudget : List ℕ → Query → Bool
+withinBudget f q = leb (units (traceAsked (fabricIn f) q)) (q .budget)
 
-module _ (f : List ℕ) (target limit budget : ℕ) (asked : Set) (area : List ℕ) where
+module _ (f : List ℕ) (q : Query) (short : q .limit ≤ 16) (small : q .budget < 2 ^ 32) where
   abbrev es : List Event
-  es = trace (fabricIn f) limit target asked
+  es = traceAsked (fabricIn f) q
 
-  -- the second pass writes all the words, if there is room for them
-  pub all-listed : (p : Passed) (after : List ℕ) → playedThen p after ≡ passOf f 2 target limit budget asked area → leb (units es) budget ≡ true
-      → 4 * wordsOf es ≤ length area → after ≡ writtenAt 0 (listWords (finds es)) area
-  all-listed p after e within room =
-      ap (λ (q : Played). q .world .area) e ∙ listed-all budget es (begin area) (ends-within budget es ∙ within) (omega arith) .written
+  pub few-words : withinBudget f q ≡ true → wordsOf es < 2 ^ 45
+  few-words within =
+      omega (
+        arith,
+        leb-true (units es) (q .budget) within,
+        few-stop (fabricIn f) (four-words f) (q .limit) (q .port) (q .asked) [] (omega arith),
+      )
 
-  module _ (p : Passed) (after : List ℕ) (e : playedThen p after ≡ passOf f 1 target limit budget asked area) where
-    -- a first pass that is not gone through would need more than the budget
-    pub over-budget : (p .status ≡ 0 → ⊥) → (leb (units es) budget ≡ false) × (after ≡ area)
-    over-budget d = go (endsWithin budget 0 es) refl
-      where
-        go : (b : Bool) → endsWithin budget 0 es ≡ b → (leb (units es) budget ≡ false) × (after ≡ area)
-        go true t = absurd (d (ap (λ (q : Played). q .status) e ∙ counted-all budget es (begin area) t .passed .through))
-        go false t = (sym (ends-within budget es) ∙ t, ap (λ (q : Played). q .world .area) e ∙ counted-stops budget es (begin area) t .area-kept)
+  module _
+      (area : List ℕ) (p : Passed) (after : List ℕ) (e : playedThen p after ≡ passOf f 2 (q .port) (q .limit) (q .budget) (q .asked) area)
+    where
+      -- a pass within the budget counts all words, and writes them if there is room for all
+      pub all-listed : withinBudget f q ≡ true → ListedAll (begin area) es (playedThen p after)
+      all-listed within =
+          subst (ListedAll (begin area) es) (sym e)
+          (listed-all (q .budget) es (begin area) (ends-within (q .budget) es ∙ within) (omega (arith, few-words within)))
 
-    pub record AllCounted : Type 0 where
-      pub within : leb (units es) budget ≡ true
-      pub words : p .words ≡ wordsOf es
-      pub few : p .words < 2 ^ 45
-      pub area-kept : after ≡ area
+      -- its status says whether it was within the budget
+      pub through-within : p .status ≡ 0 → withinBudget f q ≡ true
+      through-within through = go (withinBudget f q) refl
+        where
+          go : (b : Bool) → withinBudget f q ≡ b → withinBudget f q ≡ true
+          go true t = t
+          go false t =
+              let used = listed-stops (q .budget) es (begin area) (ends-within (q .budget) es ∙ t) in
+              absurd (let y : ⊥ = omega (arith, ap (λ (x : Played). x .status) e) in y)
 
-    -- one that is gone through has counted all words
-    pub all-counted : limit ≤ 16 → budget < 2 ^ 32 → p .status ≡ 0 → AllCounted
-    all-counted short small z = go (endsWithin budget 0 es) refl
-      where
-        go : (b : Bool) → endsWithin budget 0 es ≡ b → AllCounted
-        go true t =
-            let within : leb (units es) budget ≡ true = sym (ends-within budget es) ∙ t in
-            let few : wordsOf es < 2 ^ 45 = omega (arith, leb-true (units es) budget within, few-stop (fabricIn f) (four-words f) limit target asked [] (omega arith)) in
-            let words : p .words ≡ wordsOf es = ap (λ (q : Played). q .world .words) e ∙ exact budget es (begin area) t (omega arith) ∙ omega arith in
-            record { within = within; words = words; few = omega arith; area-kept = ap (λ (q : Played). q .world .area) e ∙ counted-all budget es (begin area) t .area-kept }
-        go false t = absurd (let y : ⊥ = omega (arith, ap (λ (q : Played). q .status) e, counted-stops budget es (begin area) t .used) in y)
+      pub else-over : (p .status ≡ 0 → ⊥) → withinBudget f q ≡ false
+      else-over d = go (withinBudget f q) refl
+        where
+          go : (b : Bool) → withinBudget f q ≡ b → withinBudget f q ≡ false
+          go true t = absurd (d (all-listed t .through))
+          go false t = t
+
+-- ---- what is answered
+
+module _ (f : List ℕ) (q : Query) (area : List ℕ) where
+  abbrev ws : List ℕ
+  ws = wordsAsked (fabricIn f) q
+
+  -- the questions asked before the trace, and after it
+  abbrev asked-first : List Question
+  asked-first = targetQuestions (fabricIn f) (q .port) (q .limit) (q .asked)
+
+  abbrev asked-then : List Question
+  asked-then = 13 asks withinBudget f q ∷ 12 asks leb (4 * length ws) (length area) ∷ []
+
+  abbrev number : ℕ
+  number = firstNo (listQuestions (fabricIn f) q area)
+
+  abbrev answer : Outcome
+  answer = orRefused number area (answered ws area)
+
+  pub first-answered : (said : ℕ) → said ≡ firstNo asked-first → (said ≡ 0 → ⊥) → outcome said area ≡ answer
+  first-answered said e d =
+      no-answered said number area (answered ws area) (e ∙ sym (first-no-said asked-first asked-then (λ z. d (e ∙ z)))) d
+
+  module _ (z : firstNo asked-first ≡ 0) where
+    then-asked : (within room : Bool) → withinBudget f q ≡ within → leb (4 * length ws) (length area) ≡ room
+        → number ≡ pick within (pick room 0 12) 13
+    then-asked within room w r =
+        first-no-more asked-first asked-then (target-numbered (fabricIn f) (q .port) (q .limit) (q .asked)) z
+        ∙ ap₂ (λ (a b : Bool). pick a (pick b 0 12) 13) w r
+
+    -- "if one more is needed, question 13 gets a no"
+    pub over-answered : withinBudget f q ≡ false → outcome 13 area ≡ answer
+    over-answered over =
+        no-answered 13 number area (answered ws area) (sym (then-asked false (leb (4 * length ws) (length area)) over refl))
+        (λ y. let n : ⊥ = omega arith in n)
+
+    module _ (within : withinBudget f q ≡ true) {words : ℕ} (are : words ≡ length ws) where
+      pub no-room-answered : length area / 4 < words → outcome 12 area ≡ answer
+      no-room-answered over =
+          no-answered 12 number area (answered ws area)
+          (sym (then-asked true false within (lt-leb (4 * length ws) (length area) (omega arith))))
+          (λ y. let n : ⊥ = omega arith in n)
+
+      pub words-answered : words ≤ length area / 4 → {last : List ℕ} → last ≡ writtenAt 0 ws area → outcome (words * 256) last ≡ answer
+      words-answered fits written =
+          yes-answered number (words * 256) ws area _ (then-asked true true within (le-leb (4 * length ws) (length area) (omega arith)))
+          (ap (λ (n : ℕ). n * 256) are) written

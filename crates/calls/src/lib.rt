@@ -1,15 +1,18 @@
 // Document 01's calls on an accepted fabric: questions 8 to 13, and the answer. Each returns the number of the first no, or the words of
 // its answer × 256; after a no every lent byte is as it was.
 use headers::HeaderSet;
+use index::CELLS;
+use index::UNUSED;
 use questions::ask;
 use records::Shape;
+ghost use mathlib.Core.List.{_++_};
 ghost use mathlib.Core.Path.{_≡_};
-ghost use Prim.Native.Nat.{_≤_};
-ghost use lib.ListN.{length};
+ghost use Prim.Native.Nat.{_*_, _≤_};
+ghost use lib.ListN.{length, take, drop};
 ghost use Rattle.headers.specs.Forms.{setOf};
 ghost use Rattle.answer.specs.Answer.{outcome, writtenAt};
 ghost use Rattle.questions.specs.Questions.{firstNo};
-ghost use Rattle.questions.specs.Tables.{EdgeTable, StartTable, EndTable};
+ghost use Rattle.questions.specs.Tables.{EdgeTable, StartTable};
 ghost use Rattle.questions.specs.declared.Read.the-variants.{Fabric};
 ghost use Rattle.file.specs.Accepted.{Accepted};
 ghost use Rattle.forwarding.specs.Verdict.{isolated};
@@ -28,6 +31,11 @@ const ANSWERED: u64 = 24 * 256;
 const NO_ROOM: u64 = 12;
 
 const BUDGET_USED: u64 = 13;
+
+// The words that the list's own bytes hold.
+const OWN_WORDS: usize = 4096;
+
+const OWN_BYTES: usize = 4 * OWN_WORDS;
 
 // ---- questions 8 to 11
 
@@ -129,7 +137,6 @@ pub fn verdict_accepted(
     area: &mut [u8],
     shape: Shape,
     edge_of: &[u16; 4096],
-    ends: &[u16; 4096],
     target: u32,
     limit: u32,
     budget: u32,
@@ -137,7 +144,6 @@ pub fn verdict_accepted(
 ) -> u64
     requires { ⌜ Accepted (now file) shape ⌝ }
     requires { ⌜ EdgeTable (now file) (shape .edges) (now «edge_of») ⌝ }
-    requires { ⌜ EndTable (now file) (shape .edges) (shape .links) (now ends) ⌝ }
     ensures { λ r. ⌜ outcome r (now (area .exit)) ≡ verdictAnswer (now (file .entry)) (query target limit budget (setOf asked)) (Fabric shape) (now (area .entry)) ⌝ }
 {
     let no = target_no(file, shape, edge_of, target, limit, asked);
@@ -147,7 +153,8 @@ pub fn verdict_accepted(
     if area.len() < ANSWER {
         return NO_ROOM;
     }
-    let index = index::build(file, shape, edge_of, ends);
+    let mut index = [UNUSED; CELLS];
+    index::fill(file, shape, &mut index);
     let p = backtrace::pass(
         file,
         area,
@@ -172,13 +179,26 @@ pub fn verdict_accepted(
 
 // ---- the list
 
-// The list on an accepted file, after questions 8 to 10: the words are counted, and written where there is room for all of them.
+// The first words of those in `own` are copied to the area.
+fn copy_words(area: &mut [u8], own: &[u8], words: usize)
+    requires { ⌜ (4 * words ≤ length (now area)) × (4 * words ≤ length (now own)) ⌝ }
+    ensures { λ _. ⌜ now (area .exit) ≡ take (4 * words) (now (own .entry)) ++ drop (4 * words) (now (area .entry)) ⌝ }
+{
+    let bytes = 4 * words;
+    let mut i: usize = 0;
+    while i < bytes {
+        area[i] = own[i];
+        i += 1;
+    }
+}
+
+// The list on an accepted file, after questions 8 to 10. No lent byte may change before questions 13 and 12 got a yes, so the trace
+// writes to bytes of its own, from which the words are copied; a list that they don't hold is traced again.
 pub fn list_accepted(
     file: &[u8],
     area: &mut [u8],
     shape: Shape,
     edge_of: &[u16; 4096],
-    ends: &[u16; 4096],
     target: u32,
     limit: u32,
     budget: u32,
@@ -186,21 +206,22 @@ pub fn list_accepted(
 ) -> u64
     requires { ⌜ Accepted (now file) shape ⌝ }
     requires { ⌜ EdgeTable (now file) (shape .edges) (now «edge_of») ⌝ }
-    requires { ⌜ EndTable (now file) (shape .edges) (shape .links) (now ends) ⌝ }
     ensures { λ r. ⌜ outcome r (now (area .exit)) ≡ listAnswer (now (file .entry)) (query target limit budget (setOf asked)) (Fabric shape) (now (area .entry)) ⌝ }
 {
     let no = target_no(file, shape, edge_of, target, limit, asked);
     if no != 0 {
         return no as u64;
     }
-    let index = index::build(file, shape, edge_of, ends);
+    let mut index = [UNUSED; CELLS];
+    index::fill(file, shape, &mut index);
+    let mut own = [0u8; OWN_BYTES];
     let counted = backtrace::pass(
         file,
-        area,
+        &mut own,
         shape,
         edge_of,
         &index,
-        events::COUNT,
+        events::LIST,
         target,
         limit,
         budget,
@@ -210,8 +231,13 @@ pub fn list_accepted(
         return BUDGET_USED;
     }
     let room = (area.len() / 4) as u64;
-    if room < counted.words {
+    let words = counted.words;
+    if room < words {
         return NO_ROOM;
+    }
+    if words <= OWN_WORDS as u64 {
+        copy_words(area, &own, words as usize);
+        return words * 256;
     }
     backtrace::pass(
         file,
@@ -225,5 +251,5 @@ pub fn list_accepted(
         budget,
         asked,
     );
-    counted.words * 256
+    words * 256
 }

@@ -7,7 +7,7 @@ use native.Mathlib.Omega.{arith}
 use lib.ListN.{getD}
 use Rattle.index.specs.Chains.{noEntry, Chain}
 use Rattle.index.proofs.Chained.{Next, next-found}
-use Rattle.entries.specs.Entries.{InChain}
+use Rattle.entries.specs.Entries.{OfChain, InChain}
 
 module _ {portOf : ℕ → ℕ} {n first next : ℕ} {cells : List ℕ} (small : n ≤ noEntry) (c : Chain n portOf first next 0 cells) where
   -- the first entry with the port p
@@ -22,7 +22,7 @@ pub next-in-chain : {portOf : ℕ → ℕ} {n p j r : ℕ} → n ≤ noEntry →
 next-in-chain {portOf} {n} {p} {j} {r} small x = go (decLt r n)
   where
     go : Dec (r < n) → InChain portOf n p r
-    go (yes l) = record { within = omega arith; is-entry = λ h. l; has-port = λ h. x .found l }
+    go (yes l) = record { of-chain = record { within = omega arith; is-entry = λ h. l }; has-port = λ h. x .found l }
     go (no l) =
         let e : r ≡ noEntry = x .none (omega arith) in
-        record { within = omega arith; is-entry = λ h. absurd (omega arith); has-port = λ h. absurd (omega arith) }
+        record { of-chain = record { within = omega arith; is-entry = λ h. absurd (omega arith) }; has-port = λ h. absurd (omega arith) }

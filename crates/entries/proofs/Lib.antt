@@ -1,4 +1,5 @@
 pub mod Those
 pub mod Entries
 pub mod InChains
-pub mod Beaters
+pub mod Ranked
+pub mod Backs

@@ -1,16 +1,16 @@
-// An entry of an accepted file in the back-trace: its own bytes, the headers that it takes back to, and its beaters along the chain of
-// their in-port. Document 01, "The back-trace and its count"; what is promised stands in specs/Entries.antt.
+// An entry of an accepted file: its own bytes, and the headers that it takes back to. What is promised stands in specs/Entries.antt.
 use headers::HeaderSet;
 use headers::MaybeSet;
-use index::NO_ENTRY;
+use headers::Transfer;
 ghost use mathlib.Core.Path.{_≡_};
-ghost use Prim.Native.Nat.{suc, _*_, _<_};
+ghost use Prim.Native.Nat.{_*_, _<_};
 ghost use lib.ListN.{length};
+ghost use Rattle.headers.specs.Sets.{intersection, undone};
+ghost use Rattle.headers.specs.Actions.{metBefore};
 ghost use Rattle.headers.specs.Forms.{setOf, maybeOf};
-ghost use Rattle.records.specs.Records.{entryWords};
+ghost use Rattle.records.specs.Records.{headerWords, entryWords, entryMatch, entryAction};
 ghost use Rattle.model.specs.Model.{fabricIn};
-ghost use Rattle.index.specs.Index.{Index};
-ghost use Rattle.entries.specs.Entries.{EntriesFrom, IsEntry, SameInPort, backFrom, IsBeater, NextBeater};
+ghost use Rattle.entries.specs.Entries.{EntriesFrom, IsEntry, keeps};
 
 // An entry's own bytes.
 const ENTRY: usize = 4 * records::ENTRY;
@@ -36,75 +36,41 @@ pub fn match_at(file: &[u8], base: usize, e: usize) -> HeaderSet
     records::match_set(entry_at(file, base, e))
 }
 
-// The headers that entry x takes at its in-port and makes into headers of t.
-pub fn before(x: &[u8], t: HeaderSet) -> MaybeSet
+// ---- taken back, in two steps
+
+// What entry x's rewrite makes into headers of t.
+pub fn unwritten(x: &[u8], t: HeaderSet) -> MaybeSet
     requires { ⌜ length (now x) ≡ 4 * entryWords ⌝ }
-    ensures { λ r. ⌜ r ≡ maybeOf (backFrom (now (x .entry)) (setOf t)) ⌝ }
+    ensures { λ r. ⌜ r ≡ maybeOf (undone headerWords (entryAction (now (x .entry)) .rewrite) (setOf t)) ⌝ }
 {
-    records::action(x).undo(t, records::match_set(x))
+    records::action(x).unwritten(t)
 }
 
-// ---- beaters
-
-// The first beater of entry e, whose bytes are x, from entry j of their in-port's chain on.
-fn next_beater<'a>(
-    file: &'a [u8],
-    base: usize,
-    index: &[u16; 13312],
-    x: &'a [u8],
-    e: usize,
-    j: usize,
-) -> usize
-    requires { ⌜ EntriesFrom (now file) base ⌝ }
-    requires { ⌜ Index (now file) (now index) ⌝ }
-    requires { ⌜ IsEntry (now file) e (now x) ⌝ }
-    requires { ⌜ SameInPort (now file) e j ⌝ }
-    ensures { λ r. ⌜ NextBeater (fabricIn (now (file .entry))) e j r ⌝ }
+// Does entry x neither copy nor swap addresses?
+pub fn keeps(x: &[u8]) -> bool
+    requires { ⌜ length (now x) ≡ 4 * entryWords ⌝ }
+    ensures { λ r. ⌜ r ≡ keeps (entryAction (now (x .entry)) .transfer) ⌝ }
 {
-    let q = records::priority(x);
-    let mut b = j;
-    while b < NO_ENTRY {
-        let p = records::priority(entry_at(file, base, b));
-        if model::outranks(p, q) {
-            return b;
-        }
-        b = index::next_in(index, b);
+    let transfer = records::action(x).transfer;
+    match transfer {
+        Transfer::Keep => true,
+        Transfer::Copy => false,
+        Transfer::Swap => false,
     }
-    b
 }
 
-// The first beater of entry e.
-pub fn first_beater<'a>(
-    file: &'a [u8],
-    base: usize,
-    index: &[u16; 13312],
-    x: &'a [u8],
-    e: usize,
-) -> usize
-    requires { ⌜ EntriesFrom (now file) base ⌝ }
-    requires { ⌜ Index (now file) (now index) ⌝ }
-    requires { ⌜ IsEntry (now file) e (now x) ⌝ }
-    ensures { λ r. ⌜ NextBeater (fabricIn (now (file .entry))) e 0 r ⌝ }
+// The headers of s in entry x's match.
+pub fn met(x: &[u8], s: HeaderSet) -> MaybeSet
+    requires { ⌜ length (now x) ≡ 4 * entryWords ⌝ }
+    ensures { λ r. ⌜ r ≡ maybeOf (intersection headerWords (setOf s) (entryMatch (now (x .entry)))) ⌝ }
 {
-    let port = records::in_port(x) as usize;
-    next_beater(file, base, index, x, e, index::first_in(index, port))
+    s.intersect(records::match_set(x))
 }
 
-// The first beater of entry e after its beater b.
-pub fn beater_after<'a>(
-    file: &'a [u8],
-    base: usize,
-    index: &[u16; 13312],
-    x: &'a [u8],
-    e: usize,
-    b: usize,
-) -> usize
-    requires { ⌜ EntriesFrom (now file) base ⌝ }
-    requires { ⌜ Index (now file) (now index) ⌝ }
-    requires { ⌜ IsEntry (now file) e (now x) ⌝ }
-    requires { ⌜ b < 512 ⌝ }
-    requires { ⌜ IsBeater (fabricIn (now file)) e b ⌝ }
-    ensures { λ r. ⌜ NextBeater (fabricIn (now (file .entry))) e (suc b) r ⌝ }
+// The headers in entry x's match that its transfer takes into s.
+pub fn met_before(x: &[u8], s: HeaderSet) -> MaybeSet
+    requires { ⌜ length (now x) ≡ 4 * entryWords ⌝ }
+    ensures { λ r. ⌜ r ≡ maybeOf (metBefore headerWords (entryMatch (now (x .entry))) (entryAction (now (x .entry)) .transfer) (setOf s)) ⌝ }
 {
-    next_beater(file, base, index, x, e, index::next_in(index, b))
+    records::action(x).met_before(s, records::match_set(x))
 }

@@ -1,39 +1,31 @@
--- No more units are made than the budget has: not by a unit, nor by what is done with a find, and so not by playing events. Assumes nothing.
-use mathlib.Core.Bool.{Bool, true, false}
+-- No more units are made than the budget has: not by a unit, nor by what is done with a find, so not by playing events. Assumes nothing.
+use mathlib.Core.Bool.{Bool, true, false, cond}
 use mathlib.Core.List.{List, [], _∷_}
 use mathlib.Core.Option.{Option, some, none}
 use mathlib.Core.Path.{_≡_, refl}
-use Prim.Native.Nat.{ℕ, zero, suc, _+_, _/_, _≤_}
+use Prim.Native.Nat.{ℕ, zero, suc, _≤_}
 use native.Mathlib.Omega.{arith}
 use borrow.Author.Tests.{ltb-true}
-use lib.Dec.{leb, ltb}
-use lib.ListN.{length}
+use lib.Dec.{eqb, ltb}
 use Rattle.headers.specs.Sets.{Header}
 use Rattle.forwarding.specs.Trace.{Find, Event, unit, find}
 use Rattle.forwarding.specs.Verdict.{foreignPacket}
 use Rattle.model.specs.Model.{fabricIn}
-use Rattle.events.specs.Play.{World, Played, nextIf, unitMade, makeUnit, step, play, counted, listed, listedIf, judged, judgedBy, findWords}
-use Rattle.events.specs.Asked.{modeOf, targetOf, byMode, foundBy}
+use Rattle.events.specs.Play.{World, Played, nextIf, unitMade, makeUnit, step, play, listed, judged, judgedBy}
+use Rattle.events.specs.Asked.{modeOf, targetOf, foundBy}
 
 -- what is done with a find makes no unit
 pub found-makes-none : (f ask : List ℕ) (d : Find) (w : World) → foundBy f ask d w .world .made ≡ w .made
-unfolding foundBy counted listed judged
-found-makes-none f ask d w = by (modeOf ask)
+unfolding foundBy listed judged
+found-makes-none f ask d w = by (eqb (modeOf ask) 3)
   where
-    if-listed : (b : Bool) → listedIf b d w .world .made ≡ w .made
-    if-listed true = refl
-    if-listed false = refl
-
     if-foreign : (o : Option Header) → judgedBy (fabricIn f) (targetOf ask) o d w .world .made ≡ w .made
     if-foreign none = refl
     if-foreign (some h) = refl
 
-    by : (m : ℕ) → byMode m f (targetOf ask) d w .world .made ≡ w .made
-    by zero = refl
-    by (suc zero) = refl
-    by (suc (suc zero)) = if-listed (leb (w .words + length (findWords d)) (length (w .area) / 4))
-    by (suc (suc (suc zero))) = if-foreign (foreignPacket (fabricIn f) (targetOf ask) d)
-    by (suc (suc (suc (suc m)))) = refl
+    by : (b : Bool) → cond b (judged (fabricIn f) (targetOf ask)) listed d w .world .made ≡ w .made
+    by true = if-foreign (foreignPacket (fabricIn f) (targetOf ask) d)
+    by false = refl
 
 pub unit-within : (budget : ℕ) (w : World) → w .made ≤ budget → makeUnit budget w .world .made ≤ budget
 unfolding makeUnit

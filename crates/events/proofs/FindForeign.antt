@@ -1,18 +1,18 @@
 -- The foreign packet of a find, from the first part of a carving and what the edge's own bytes say, and what is played then. Assumes nothing.
-use mathlib.Core.Bool.{Bool, true, false, cond, true≢false}
+use mathlib.Core.Bool.{Bool, true, false, cond}
 use mathlib.Core.List.{List, [], _∷_, head?}
 use mathlib.Core.Option.{Option, some, none, Option·map}
 use mathlib.Core.Path.{_≡_, refl, sym, ap, _∙_}
 use Prim.Native.Nat.{ℕ}
 use lib.Dec.{eqb}
 use lib.ListN.{getD, drop}
-use Rattle.headers.specs.Bits.{Words}
+use Rattle.headers.specs.Bits.{Words, firstBit, noBit}
 use Rattle.headers.specs.Sets.{Header, Set, overlaps, lowest}
-use Rattle.headers.specs.Carving.{carve, parts, Cut, nextCut}
-use Rattle.headers.specs.Forms.{setOf, maybeOf, nextOf}
+use Rattle.headers.specs.Carving.{free, turned, taking, carve, parts}
+use Rattle.headers.specs.Forms.{setOf, maybeOf}
 use Rattle.headers.specs.declared.MaybeSet.{MaybeSet}
-use Rattle.headers.specs.declared.NextPart.{NextPart}
-use Rattle.headers.proofs.Carved.{parts-end, parts-next}
+use Rattle.headers.proofs.Answers.{maybe-none, maybe-some}
+use Rattle.headers.proofs.Carved.{parts-none, parts-first}
 use Rattle.answer.specs.Answer.{writtenAt}
 use Rattle.records.specs.Records.{edgeGroup, edgeAdmitted, portOfEdge, edgeBytes}
 use Rattle.file.specs.Accepted.{HasEdge}
@@ -29,28 +29,18 @@ pub first-apart : (p b : Set) → overlaps 4 p b ≡ false → head? (carve 4 p 
 unfolding carve
 first-apart p b e = ap (λ (o : Bool). head? (cond o (parts 4 p b) (p ∷ []))) e
 
--- else it is the next part
-pub first-next : (p b : Set) → Words 4 (p .care) → Words 4 (b .care) → Words 4 (b .value) → overlaps 4 p b ≡ true
-    → {n : NextPart} → n ≡ nextOf (nextCut 4 p b) → _≡_ {A = MaybeSet} (record { some = n .some; set = n .part }) (maybeOf (head? (carve 4 p b)))
-unfolding carve
-first-next p b cp cb vb o e =
-    ap (λ (m : NextPart). record { some = m .some; set = m .part }) e
-    ∙ go (nextCut 4 p b) refl
-    ∙ ap (λ (o : Bool). maybeOf (head? (cond o (parts 4 p b) (p ∷ [])))) (sym o)
-  where
-    go : (c : Option Cut) → nextCut 4 p b ≡ c → _≡_ {A = MaybeSet} (record { some = nextOf c .some; set = nextOf c .part }) (maybeOf (head? (parts 4 p b)))
-    go none h = ap (λ (l : List Set). maybeOf (head? l)) (sym (parts-end 4 b cb vb p h))
-    go (some c) h = ap (λ (l : List Set). maybeOf (head? l)) (sym (parts-next 4 b cb vb p cp c h))
+-- else there is none where no bit is free, and with one the first free bit makes it
+module _ (p b : Set) (cb : Words 4 (b .care)) (vb : Words 4 (b .value)) (o : overlaps 4 p b ≡ true) where
+  carve-parts : carve 4 p b ≡ parts 4 p b
+  unfolding carve
+  carve-parts = ap (λ (o : Bool). cond o (parts 4 p b) (p ∷ [])) o
 
--- ---- 'empty or a set', read back
+  pub first-none : noBit 4 (free 4 p b) ≡ true → head? (carve 4 p b) ≡ none
+  first-none e = ap head? (carve-parts ∙ parts-none 4 b cb vb p e)
 
-empty-is : (o : Option Set) (m : MaybeSet) → m ≡ maybeOf o → m .some ≡ false → o ≡ none
-empty-is none m e h = refl
-empty-is (some s) m e h = absurd (true≢false (sym (ap (λ (m : MaybeSet). m .some) e) ∙ h))
-
-set-is : (o : Option Set) (m : MaybeSet) → m ≡ maybeOf o → m .some ≡ true → o ≡ some (setOf (m .set))
-set-is none m e h = absurd (true≢false (sym h ∙ ap (λ (m : MaybeSet). m .some) e))
-set-is (some s) m e h = ap (λ (m : MaybeSet). some (setOf (m .set))) (sym e)
+  pub first-free : Words 4 (p .care) → noBit 4 (free 4 p b) ≡ false
+      → head? (carve 4 p b) ≡ some (taking 4 (firstBit 4 (free 4 p b)) (turned 4 b) p)
+  first-free cp e = ap head? (carve-parts ∙ parts-first 4 b cb vb p cp e)
 
 -- ---- the foreign packet
 
@@ -79,7 +69,7 @@ module _
       unfolding judged
       judged-on e =
           ap (λ (o : Option Header). judgedBy (fabricIn f) target o (findAt f k path d s) (worldOf counters area))
-          (sym (packet-is ∙ ap (Option·map (lowest 4)) (empty-is (foreignPart edge group s) m is-part e)))
+          (sym (packet-is ∙ ap (Option·map (lowest 4)) (maybe-none (foreignPart edge group s) m is-part e)))
 
       pub judged-stops : m .some ≡ true → {written : List ℕ}
           → written ≡ writtenAt 0 (reachedWords (getD counters 0 0) (portOfEdge f k) (drop d path) (lowest 4 (setOf (m .set)))) area
@@ -88,4 +78,4 @@ module _
       judged-stops e w =
           ap (playedOf 2 counters) w
           ∙ ap (λ (o : Option Header). judgedBy (fabricIn f) target o (findAt f k path d s) (worldOf counters area))
-          (sym (packet-is ∙ ap (Option·map (lowest 4)) (set-is (foreignPart edge group s) m is-part e)))
+          (sym (packet-is ∙ ap (Option·map (lowest 4)) (maybe-some (foreignPart edge group s) m is-part e)))

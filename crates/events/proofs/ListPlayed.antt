@@ -1,115 +1,96 @@
--- The list's two passes: the first writes nothing, the second writes the words of all finds in order. Assumes nothing.
-use mathlib.Core.Bool.{Bool, true, false, _&&_, true≢false, false≢true}
+-- The list's pass: it counts the words of all finds, and writes them in order where there is room for all. Assumes nothing.
+use mathlib.Core.Bool.{Bool, true, false, _&&_, cond, true≢false, false≢true}
 use mathlib.Core.List.{List, [], _∷_, _++_}
 use mathlib.Core.Path.{_≡_, refl, sym, _∙_, subst}
-use Prim.Native.Nat.{ℕ, suc, _+_, _*_, _/_, _≤_}
+use Prim.Native.Nat.{ℕ, suc, _+_, _*_, _/_, _≤_, _<_}
 use native.Mathlib.Numerals.{add-one}
 use native.Mathlib.Omega.{arith}
-use borrow.Author.Tests.{le-leb}
+use borrow.Author.Tests.{lt-ltb, le-leb}
 use lib.Dec.{ltb, leb}
 use lib.ListN.{length, length-append}
-use Rattle.headers.proofs.Booleans.{and-fst, and-snd}
 use Rattle.answer.specs.Answer.{writtenAt}
 use Rattle.answer.proofs.Written.{written-next, written-length, written-none}
-use Rattle.forwarding.specs.Trace.{Find, Event, unit, find, units, finds}
+use Rattle.forwarding.specs.Trace.{Event, unit, find, finds}
 use Rattle.forwarding.specs.Verdict.{endsWithin}
-use Rattle.events.specs.Play.{World, Played, andThen, unitMade, makeUnit, step, play, findWords, listWords, tooMany, countedOn, counted, listedIf, listed}
+use Rattle.events.specs.Play.{World, Played, andThen, unitMade, makeUnit, step, play}
+use Rattle.events.specs.Play.{findWords, listWords, tooMany, countedOn, listed}
+
+-- the words of the finds among events
+abbrev pub wordsOf : List Event → ℕ
+wordsOf es = length (listWords (finds es))
 
 -- a world with one more unit made
 abbrev oneMore : World → World
 oneMore w = record { made = w .made + 1; words = w .words; area = w .area }
 
--- what holds of the events after a unit, where that unit is within the budget
-module _ (budget : ℕ) (found : Find → World → Played) (es : List Event) (w : World) where
-  after-unit : (P : Played → Type 0) → endsWithin budget (w .made) (unit ∷ es) ≡ true
-      → (endsWithin budget (w .made + 1) es ≡ true → P (play budget found es (oneMore w))) → P (play budget found (unit ∷ es) w)
-  unfolding endsWithin play step makeUnit
-  after-unit P e then = go (ltb (w .made) budget) (and-fst _ _ e)
-    where
-      go : (b : Bool) → b ≡ true → P (andThen (unitMade b w) (play budget found es))
-      go true d = then (subst (λ (k : ℕ). endsWithin budget k es ≡ true) (sym (add-one (w .made))) (and-snd (ltb (w .made) budget) _ e))
-      go false d = absurd (false≢true d)
-
--- all events are gone through: their units are made
-pub record Through (w : World) (es : List Event) (p : Played) : Type 0 where
+-- all events are gone through and the words of all finds counted; if there is room for all of them, they are written
+pub record ListedAll (w : World) (es : List Event) (p : Played) : Type 0 where
   pub through : p .status ≡ 0
-  pub made : p .world .made ≡ w .made + units es
+  pub counted : p .world .words ≡ w .words + wordsOf es
+  pub written : 4 * (w .words + wordsOf es) ≤ length (w .area) → p .world .area ≡ writtenAt (w .words) (listWords (finds es)) (w .area)
 
 module _ (budget : ℕ) where
-  -- ---- the first pass
+  -- from any world in which the budget has their units, and the words stay below the limit of the count
+  abbrev pub Listed : List Event → Type 0
+  Listed es =
+      (w : World) → endsWithin budget (w .made) es ≡ true → w .words + wordsOf es < tooMany → ListedAll w es (play budget listed es w)
 
-  pub record CountedAll (w : World) (es : List Event) (p : Played) : Type 0 where
-    pub passed : Through w es p
-    pub area-kept : p .world .area ≡ w .area
-
-  pub counted-all : (es : List Event) (w : World) → endsWithin budget (w .made) es ≡ true → CountedAll w es (play budget counted es w)
-  unfolding endsWithin play step counted units finds listWords
-  counted-all [] w e = record {
-    passed = record { through = refl; made = omega arith };
-    area-kept = refl;
+  pub listed-all : (es : List Event) → Listed es
+  unfolding endsWithin play step makeUnit listed finds listWords
+  listed-all [] w e low = record {
+    through = refl;
+    counted = omega arith;
+    written = λ room. sym (written-none (w .words) (w .area) (omega arith));
   }
-  counted-all (unit ∷ es) w e = after-unit budget counted es w (CountedAll w (unit ∷ es)) e λ d.
-      let r = counted-all es (oneMore w) d in
-      record { passed = record { through = r .passed .through; made = omega (arith, r .passed .made) }; area-kept = r .area-kept }
-  counted-all (find d ∷ es) w e =
-      let next : World = record { made = w .made; words = countedOn (ltb (w .words) tooMany) (w .words) (length (findWords d)); area = w .area } in
-      let r = counted-all es next e in
-      record {
-        passed = record { through = r .passed .through; made = r .passed .made };
-        area-kept = r .area-kept;
-      }
-
-  -- where the budget ends first, the area is as it was
-  pub record Stopped (w : World) (p : Played) : Type 0 where
-    pub used : p .status ≡ 1
-    pub area-kept : p .world .area ≡ w .area
-
-  pub counted-stops : (es : List Event) (w : World) → endsWithin budget (w .made) es ≡ false → Stopped w (play budget counted es w)
-  unfolding endsWithin play step makeUnit counted
-  counted-stops [] w e = absurd (true≢false e)
-  counted-stops (unit ∷ es) w e = go (ltb (w .made) budget) e (counted-stops es)
+  listed-all (unit ∷ es) w e low = go (ltb (w .made) budget) e (listed-all es)
     where
-      go : (b : Bool) → (b && endsWithin budget (suc (w .made)) es) ≡ false → ((w : World) → endsWithin budget (w .made) es ≡ false → Stopped w (play budget counted es w))
-          → Stopped w (andThen (unitMade b w) (play budget counted es))
-      go true d ih = let r = ih (oneMore w) (subst (λ (k : ℕ). endsWithin budget k es ≡ false) (sym (add-one (w .made))) d) in record { used = r .used; area-kept = r .area-kept }
-      go false d ih = record { used = refl; area-kept = refl }
-  counted-stops (find d ∷ es) w e =
-      let r = counted-stops es (record { made = w .made; words = countedOn (ltb (w .words) tooMany) (w .words) (length (findWords d)); area = w .area }) e in
-      record { used = r .used; area-kept = r .area-kept }
-
-  -- ---- the second pass, where there is room for all
-
-  pub record ListedAll (w : World) (es : List Event) (p : Played) : Type 0 where
-    pub passed : Through w es p
-    pub written : p .world .area ≡ writtenAt (w .words) (listWords (finds es)) (w .area)
-
-  pub listed-all : (es : List Event) (w : World) → endsWithin budget (w .made) es ≡ true
-      → 4 * (w .words + length (listWords (finds es))) ≤ length (w .area) → ListedAll w es (play budget listed es w)
-  unfolding endsWithin play step listed units finds listWords
-  listed-all [] w e room = record {
-    passed = record { through = refl; made = omega arith };
-    written = sym (written-none (w .words) (w .area) (omega arith));
-  }
-  listed-all (unit ∷ es) w e room = after-unit budget listed es w (ListedAll w (unit ∷ es)) e λ d.
-      let r = listed-all es (oneMore w) d room in
-      record { passed = record { through = r .passed .through; made = omega (arith, r .passed .made) }; written = r .written }
-  listed-all (find d ∷ es) w e room = go (leb (w .words + length (findWords d)) (length (w .area) / 4)) (le-leb (w .words + length (findWords d)) (length (w .area) / 4) (omega (arith, n))) (listed-all es next e)
+      go : (b : Bool) → (b && endsWithin budget (suc (w .made)) es) ≡ true → Listed es
+          → ListedAll w (unit ∷ es) (andThen (unitMade b w) (play budget listed es))
+      go true d ih =
+          let r = ih (oneMore w) (subst (λ (k : ℕ). endsWithin budget k es ≡ true) (sym (add-one (w .made))) d) low in
+          record { through = r .through; counted = r .counted; written = r .written }
+      go false d ih = absurd (false≢true d)
+  listed-all (find d ∷ es) w e low =
+      go (ltb (w .words) tooMany) (leb (w .words + length (findWords d)) (length (w .area) / 4)) (lt-ltb (w .words) tooMany (omega arith))
+      (λ room. le-leb (w .words + length (findWords d)) (length (w .area) / 4) (omega (arith, n))) (listed-all es)
     where
-      n : length (findWords d ++ listWords (finds es)) ≡ length (findWords d) + length (listWords (finds es))
+      n : length (findWords d ++ listWords (finds es)) ≡ length (findWords d) + wordsOf es
       n = length-append (findWords d) (listWords (finds es))
 
-      here : 4 * (w .words + length (findWords d)) ≤ length (w .area)
-      here = omega (arith, n)
+      -- the world after it, by whether the count is below its limit, and whether there is room
+      next : Bool → Bool → World
+      next b c = record {
+        made = w .made;
+        words = countedOn b (w .words) (length (findWords d));
+        area = cond c (writtenAt (w .words) (findWords d) (w .area)) (w .area);
+      }
 
-      next : World
-      next = record { made = w .made; words = w .words + length (findWords d); area = writtenAt (w .words) (findWords d) (w .area) }
-
-      go : (b : Bool) → b ≡ true → (4 * (next .words + length (listWords (finds es))) ≤ length (next .area) → ListedAll next es (play budget listed es next))
-          → ListedAll w (find d ∷ es) (andThen (listedIf b d w) (play budget listed es))
-      go true d' ih =
-          let r = ih (omega (arith, n, written-length (w .words) (findWords d) [] (w .area) here)) in
+      go : (b c : Bool) → b ≡ true → (4 * (w .words + wordsOf (find d ∷ es)) ≤ length (w .area) → c ≡ true) → Listed es
+          → ListedAll w (find d ∷ es) (play budget listed es (next b c))
+      go false c below fits ih = absurd (false≢true below)
+      go true false below fits ih =
+          let r = ih (next true false) e (omega (arith, n)) in
+          record { through = r .through; counted = omega (arith, n, r .counted); written = λ room. absurd (false≢true (fits room)) }
+      go true true below fits ih =
+          let r = ih (next true true) e (omega (arith, n)) in
           record {
-            passed = record { through = r .passed .through; made = r .passed .made };
-            written = r .written ∙ written-next (w .words) (findWords d) (listWords (finds es)) (w .area) here;
+            through = r .through;
+            counted = omega (arith, n, r .counted);
+            written = λ room.
+                let here : 4 * (w .words + length (findWords d)) ≤ length (w .area) = omega (arith, n) in
+                r .written (omega (arith, n, written-length (w .words) (findWords d) [] (w .area) here))
+                ∙ written-next (w .words) (findWords d) (listWords (finds es)) (w .area) here;
           }
-      go false d' ih = absurd (false≢true d')
+
+  -- where the budget ends first, it was used
+  pub listed-stops : (es : List Event) (w : World) → endsWithin budget (w .made) es ≡ false → play budget listed es w .status ≡ 1
+  unfolding endsWithin play step makeUnit listed
+  listed-stops [] w e = absurd (true≢false e)
+  listed-stops (unit ∷ es) w e = go (ltb (w .made) budget) e (listed-stops es)
+    where
+      go : (b : Bool) → (b && endsWithin budget (suc (w .made)) es) ≡ false
+          → ((v : World) → endsWithin budget (v .made) es ≡ false → play budget listed es v .status ≡ 1)
+          → andThen (unitMade b w) (play budget listed es) .status ≡ 1
+      go true d ih = ih (oneMore w) (subst (λ (k : ℕ). endsWithin budget k es ≡ false) (sym (add-one (w .made))) d)
+      go false d ih = refl
+  listed-stops (find d ∷ es) w e = listed-stops es _ e

@@ -1,20 +1,21 @@
 -- What the code of the trace is handed beside the file and the index: six numbers, an array of 16 entries, two counters. Assumes nothing.
-use mathlib.Core.Bool.{Bool, true, false}
+use mathlib.Core.Bool.{Bool, true, false, cond}
 use mathlib.Core.List.{List}
 use mathlib.Core.Path.{_≡_}
-use Prim.Native.Nat.{ℕ, zero, suc, _≤_, _<_}
+use Prim.Native.Nat.{ℕ, _≤_, _<_}
+use lib.Dec.{eqb}
 use lib.ListN.{length, getD, drop}
 use Rattle.headers.specs.Sets.{Set}
 use Rattle.records.specs.Records.{portOfEdge}
 use Rattle.forwarding.specs.Trace.{Find}
 use Rattle.model.specs.Model.{AFabric, fabricIn, entriesAt}
-use Rattle.events.specs.Play.{World, Played, makeUnit, counted, listed, judged}
+use Rattle.events.specs.Play.{World, Played, makeUnit, listed, judged}
 
 -- the six numbers
 abbrev pub budgetOf : List ℕ → ℕ
 budgetOf ask = getD ask 0 0
 
--- 1: the list's first pass, 2: its second, 3: the verdict
+-- 3: the verdict, else the list
 abbrev pub modeOf : List ℕ → ℕ
 modeOf ask = getD ask 1 0
 
@@ -59,11 +60,7 @@ pub record Room (ask counters area : List ℕ) : Type 0 where
 
 -- what is done with a find, by the mode
 abbrev pub byMode : ℕ → List ℕ → ℕ → Find → World → Played
-byMode (suc (suc (suc zero))) f target = judged (fabricIn f) target
-byMode (suc (suc zero)) f target = listed
-byMode (suc zero) f target = counted
-byMode zero f target = counted
-byMode (suc (suc (suc (suc m)))) f target = counted
+byMode mode f target = cond (eqb mode 3) (judged (fabricIn f) target) listed
 
 unfoldable pub foundBy : List ℕ → List ℕ → Find → World → Played
 foundBy f ask = byMode (modeOf ask) f (targetOf ask)

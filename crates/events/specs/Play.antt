@@ -1,6 +1,6 @@
 -- What the code does with the events of a trace: document 01, "The back-trace and its count". The trace itself knows no budget, no early
 -- stop and no area; they are here, a line each. Assumes nothing.
-use mathlib.Core.Bool.{Bool, true, false}
+use mathlib.Core.Bool.{Bool, true, false, cond}
 use mathlib.Core.List.{List, [], _∷_, _++_, map}
 use mathlib.Core.Option.{Option, some, none}
 use Prim.Native.Nat.{ℕ, zero, suc, _+_, _*_, _/_, _^_}
@@ -18,7 +18,7 @@ pub record World : Type 0 where
   pub words : ℕ
   pub area : List ℕ
 
--- how a part of the trace ended: 0, it is through; 1, the budget was used; 2, the verdict stops; 3, there was no room
+-- how a part of the trace ended: 0, it is through; 1, the budget was used; 2, the verdict stops
 pub record Played : Type 0 where
   pub status : ℕ
   pub world : World
@@ -68,25 +68,17 @@ abbrev pub countedOn : Bool → ℕ → ℕ → ℕ
 countedOn true words n = words + n
 countedOn false words n = words
 
--- the list's first pass: its words are counted
-unfoldable pub counted : Find → World → Played
-counted d w = goesOn (record {
+-- the area with words written from word `at` on, if there is room for all of them
+abbrev pub fittedAt : ℕ → List ℕ → List ℕ → List ℕ
+fittedAt at ws area = cond (leb (at + length ws) (length area / 4)) (writtenAt at ws area) area
+
+-- the list: a find's words are counted, and written where there is room for them
+unfoldable pub listed : Find → World → Played
+listed d w = goesOn (record {
   made = w .made;
   words = countedOn (ltb (w .words) tooMany) (w .words) (length (findWords d));
-  area = w .area;
+  area = fittedAt (w .words) (findWords d) (w .area);
 })
-
-abbrev pub listedIf : Bool → Find → World → Played
-listedIf true d w = goesOn (record {
-  made = w .made;
-  words = w .words + length (findWords d);
-  area = writtenAt (w .words) (findWords d) (w .area);
-})
-listedIf false d w = record { status = 3; world = w }
-
--- the list's second pass: they are written, where there is room for them
-unfoldable pub listed : Find → World → Played
-listed d w = listedIf (leb (w .words + length (findWords d)) (length (w .area) / 4)) d w
 
 -- "0 isolated or 1 reached; units made; edge port; hops; header (4); entries in travelling order"
 unfoldable pub reachedWords : ℕ → ℕ → List ℕ → Header → List ℕ

@@ -1,4 +1,4 @@
-// What is done with an event of the back-trace: a unit is made, if the budget has it; the words of a find are counted, or written to the
+// What is done with an event of the back-trace: a unit is made, if the budget has it; the words of a find are counted and written for the
 // list, or it is judged for the verdict. Document 01, the last three paragraphs of "The back-trace and its count".
 use headers::HeaderSet;
 use headers::MaybeSet;
@@ -16,7 +16,7 @@ ghost use Rattle.answer.specs.Answer.{writtenAt, sixteen};
 ghost use Rattle.records.specs.Records.{edgeWords, edgeGroup, edgeAdmitted, portOfEdge};
 ghost use Rattle.file.specs.Accepted.{HasEdge};
 ghost use Rattle.model.specs.Model.{fabricIn};
-ghost use Rattle.events.specs.Play.{findWords, reachedWords, tooMany, countedOn, listed, judged};
+ghost use Rattle.events.specs.Play.{findWords, reachedWords, tooMany, countedOn, fittedAt, listed, judged};
 ghost use Rattle.events.specs.Asked.{Asked, Path, Room, budgetOf, targetOf, worldOf, playedOf, foundBy, findAt, UnitMade};
 
 // Where numbers stand in `ask`.
@@ -26,9 +26,7 @@ const MODE: usize = 1;
 
 const GROUP: usize = 4;
 
-// What is done with the finds.
-pub const COUNT: u32 = 1;
-
+// What is done with the finds: they are listed, or judged for the verdict.
 pub const LIST: u32 = 2;
 
 pub const JUDGE: u32 = 3;
@@ -97,7 +95,7 @@ fn words_of(d: usize) -> u64
     (1 + (PLACES - d) + 8) as u64
 }
 
-// The list's first pass: the words are counted.
+// The words of a find are counted.
 fn count_find(d: usize, counters: &mut [u64; 2])
     requires { ⌜ d ≤ 16 ⌝ }
     requires { ⌜ length (now counters) ≡ 2 ⌝ }
@@ -148,7 +146,32 @@ fn put_find(area: &mut [u8], at: usize, port: u32, p: HeaderSet, d: usize, path:
     put_set(area, at + 1 + hops, p);
 }
 
-// The list's second pass: the find at edge k is written, where there is room for it.
+// The words of the find p at edge k, at word `at` of the area and on, if there is room for all of them.
+fn put_fitting(
+    file: &[u8],
+    area: &mut [u8],
+    at: u64,
+    k: usize,
+    p: HeaderSet,
+    d: usize,
+    path: &[u32; 16],
+)
+    requires { ⌜ HasEdge (now file) k ⌝ }
+    requires { ⌜ Path (now path) d ⌝ }
+    ensures { λ _. ⌜ now (area .exit) ≡ fittedAt at (findWords (findAt (now (file .entry)) k (now (path .entry)) d (setOf p))) (now (area .entry)) ⌝ }
+{
+    let words = words_of(d);
+    let room = (area.len() / 4) as u64;
+    if room < words {
+        return;
+    }
+    if room - words < at {
+        return;
+    }
+    put_find(area, at as usize, port_at(file, k), p, d, path);
+}
+
+// The find p at edge k, for the list: its words are written where there is room for them, and always counted.
 fn list_find(
     file: &[u8],
     area: &mut [u8],
@@ -157,25 +180,15 @@ fn list_find(
     d: usize,
     path: &[u32; 16],
     counters: &mut [u64; 2],
-) -> u32
+)
     requires { ⌜ HasEdge (now file) k ⌝ }
     requires { ⌜ Path (now path) d ⌝ }
     requires { ⌜ length (now counters) ≡ 2 ⌝ }
-    ensures { λ r. ⌜ playedOf r (now (counters .exit)) (now (area .exit)) ≡ listed (findAt (now (file .entry)) k (now (path .entry)) d (setOf p)) (worldOf (now (counters .entry)) (now (area .entry))) ⌝ }
+    ensures { λ _. ⌜ playedOf 0 (now (counters .exit)) (now (area .exit)) ≡ listed (findAt (now (file .entry)) k (now (path .entry)) d (setOf p)) (worldOf (now (counters .entry)) (now (area .entry))) ⌝ }
     ensures { λ _. ⌜ length (now (counters .exit)) ≡ 2 ⌝ }
 {
-    let at = counters[1];
-    let words = words_of(d);
-    let room = (area.len() / 4) as u64;
-    if room < words {
-        return 3;
-    }
-    if room - words < at {
-        return 3;
-    }
-    put_find(area, at as usize, port_at(file, k), p, d, path);
-    counters[1] = at + words;
-    0
+    put_fitting(file, area, counters[1], k, p, d, path);
+    count_find(d, counters);
 }
 
 // ---- the verdict
@@ -184,15 +197,19 @@ fn list_find(
 fn first_part(p: HeaderSet, b: HeaderSet) -> MaybeSet
     ensures { λ r. ⌜ r ≡ maybeOf (head? (carve 4 (setOf p) (setOf b))) ⌝ }
 {
-    if p.overlaps(b) {
-        let next = p.next_part(b);
-        let set = next.part;
-        MaybeSet {
-            some: next.some,
-            set,
-        }
-    } else {
-        MaybeSet { some: true, set: p }
+    if !p.overlaps(b) {
+        return MaybeSet { some: true, set: p };
+    }
+    let free = p.free(b);
+    if headers::none_set(free) {
+        return MaybeSet {
+            some: false,
+            set: HeaderSet::all_wild(),
+        };
+    }
+    MaybeSet {
+        some: true,
+        set: p.unlike(headers::first_bit(free), b),
     }
 }
 
@@ -267,7 +284,7 @@ fn judge(
 
 // ---- by the mode
 
-// The find p at edge k, with the entries of the path from place d on. 0: the trace goes on, 2: the verdict stops, 3: no room.
+// The find p at edge k, with the entries of the path from place d on. 0: the trace goes on, 2: the verdict stops.
 pub fn found(
     file: &[u8],
     ask: &[u32; 6],
@@ -286,12 +303,9 @@ pub fn found(
     ensures { λ _. ⌜ length (now (counters .exit)) ≡ 2 ⌝ }
 {
     let mode = ask[MODE];
-    if mode == LIST {
-        return list_find(file, area, k, p, d, path, counters);
-    }
     if mode == JUDGE {
         return judge(file, ask, area, k, p, d, path, counters);
     }
-    count_find(d, counters);
+    list_find(file, area, k, p, d, path, counters);
     0
 }

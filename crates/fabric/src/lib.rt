@@ -7,7 +7,7 @@ ghost use mathlib.Core.Path.{_≡_};
 ghost use mathlib.Core.List.{[], _∷_};
 ghost use Rattle.headers.specs.Forms.{setOf};
 ghost use Rattle.answer.specs.Answer.{outcome};
-ghost use Rattle.questions.specs.Tables.{EdgeTable, StartTable, EndTable};
+ghost use Rattle.questions.specs.Tables.{EdgeTable, StartTable};
 ghost use Rattle.questions.specs.declared.Read.the-variants.{Fabric};
 ghost use Rattle.file.specs.Accepted.{Accepted};
 ghost use Rattle.calls.specs.Questions.{query};
@@ -33,7 +33,6 @@ fn answer_accepted(
     shape: Shape,
     edge_of: &[u16; 4096],
     starts: &[u16; 4096],
-    ends: &[u16; 4096],
     port: u32,
     limit: u32,
     budget: u32,
@@ -42,7 +41,6 @@ fn answer_accepted(
     requires { ⌜ Accepted (now file) shape ⌝ }
     requires { ⌜ EdgeTable (now file) (shape .edges) (now «edge_of») ⌝ }
     requires { ⌜ StartTable (now file) (shape .edges) (shape .links) (now starts) ⌝ }
-    requires { ⌜ EndTable (now file) (shape .edges) (shape .links) (now ends) ⌝ }
     ensures { λ r. ⌜ outcome r (now (area .exit)) ≡ answerOf call (now (file .entry)) (query port limit budget (setOf asked)) (Fabric shape) (now (area .entry)) ⌝ }
 {
     match call {
@@ -51,23 +49,12 @@ fn answer_accepted(
             area,
             shape,
             edge_of,
-            ends,
             port,
             limit,
             budget,
             asked,
         ),
-        Call::List => calls::list_accepted(
-            file,
-            area,
-            shape,
-            edge_of,
-            ends,
-            port,
-            limit,
-            budget,
-            asked,
-        ),
+        Call::List => calls::list_accepted(file, area, shape, edge_of, port, limit, budget, asked),
         Call::Run => calls::run_accepted(
             file,
             area,
@@ -106,7 +93,6 @@ fn answer(
             shape,
             &edge_of,
             &starts,
-            &ends,
             port,
             limit,
             budget,

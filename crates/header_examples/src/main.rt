@@ -65,16 +65,14 @@ fn put_parts(label: &[u8], p: HeaderSet, b: HeaderSet) {
         return;
     }
     let mut rest = p;
-    for _ in 0..128usize {
-        let next = rest.next_part(b);
-        if !next.some {
-            return;
-        }
-        let part = next.part;
-        put_set(part);
+    let mut free = rest.free(b);
+    while !headers::none_set(free) {
+        let bit = headers::first_bit(free);
+        put_set(rest.unlike(bit, b));
         end();
-        let later = next.rest;
-        rest = later;
+        let later = headers::outside(bit, free);
+        rest = rest.like(bit, b);
+        free = later;
     }
 }
 

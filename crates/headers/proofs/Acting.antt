@@ -10,9 +10,9 @@ use borrow.Author.Tests.{eq-eqb, ne-eqb}
 use lib.Bits.{bitAnd, and-zero-r}
 use lib.Dec.{eqb}
 use Rattle.headers.specs.Bits.{word, words, every, Words, complement}
-use Rattle.headers.specs.Sets.{Header, Set, sameOn, contains, WellFormed, Written, among, undone}
+use Rattle.headers.specs.Sets.{Header, Set, sameOn, contains, WellFormed, Written, intersection, among, undone}
 use Rattle.headers.specs.Actions.{Act, moved, copied, swapped, transferred, acted, wildAt, wantedOf, movedSet, untransferred}
-use Rattle.headers.specs.Actions.{unacted, noAction}
+use Rattle.headers.specs.Actions.{unacted, metBefore, before, noAction}
 use Rattle.headers.specs.declared.Transfer.{Transfer}
 use Rattle.headers.specs.declared.Transfer.the-variants.{Keep, Copy, Swap}
 use Rattle.headers.proofs.Booleans.{both-ways, and-fst, and-snd}
@@ -174,6 +174,25 @@ module _ (n : ℕ) (two : 2 ≤ n) (a : Act) (t : Set) (m : Words n (a .rewrite 
   pub unacted-empty : (unacted n a t ≡ none) ↔ ((h : Header) → Words n h → contains n t (acted n a h) ≡ false)
   unacted-empty =
       empty-exactly n (unacted n a t) (λ h. contains n t (acted n a h)) (λ s e. unacted-well-formed s e .care) (λ h w. unacted-exact h)
+
+-- ---- undoing step by step, for the headers of a match
+
+module _ (n : ℕ) (matches : Set) where
+  -- the rewrite is undone, and then the transfer for the match
+  pub before-steps : (a : Act) (t : Set) → before n matches a t ≡ bind (undone n (a .rewrite) t) (metBefore n matches (a .transfer))
+  unfolding before unacted metBefore bind
+  before-steps a t = go (undone n (a .rewrite) t)
+    where
+      go : (o : Option Set)
+          → bind (bind o (untransferred n (a .transfer))) (λ s. intersection n s matches)
+          ≡ bind o (metBefore n matches (a .transfer))
+      go none = refl
+      go (some s) = refl
+
+  -- with no transfer there is the match alone
+  pub met-kept : (s : Set) → metBefore n matches Keep s ≡ intersection n s matches
+  unfolding metBefore bind
+  met-kept s = refl
 
 -- ---- acting
 

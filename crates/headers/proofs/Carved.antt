@@ -1,21 +1,20 @@
 -- Carving is exact, part by part and as a whole, for any number of words. Assumes nothing.
 use mathlib.Core.Bool.{Bool, true, false, not, _&&_, _||_, cond, true≢false, false≢true, or-false}
 use mathlib.Core.List.{List, [], _∷_}
-use mathlib.Core.Option.{some, none}
 use mathlib.Core.Path.{_≡_, refl, sym, ap, ap₂, _∙_, subst}
 use Prim.Native.Nat.{ℕ, zero, suc, _+_, _*_, _<_}
 use native.Mathlib.Decide.{ℕ-discrete}
 use native.Mathlib.Omega.{arith}
 use borrow.Author.Tests.{eq-eqb, ne-eqb}
 use lib.Dec.{eqb}
-use Rattle.headers.specs.Bits.{Words, bitAt, positions, keepIf, those, setBits, single, firstOf, firstSet, noBit}
-use Rattle.headers.specs.Sets.{Header, Set, contains, overlaps}
-use Rattle.headers.specs.Carving.{free, opposite, turned, taking, like, unlike, partsAt, parts, carve, Cut, cutAt, nextCut, one, holders}
-use Rattle.headers.proofs.Booleans.{_⇒_, _==_, and-fst, and-snd, implied, implies, always}
-use Rattle.headers.proofs.Positions.{every-at, every-of}
-use Rattle.headers.proofs.Members.{contains-bits, member-exactly}
+use Rattle.headers.specs.Bits.{Words, bitAt, positions, keepIf, those, setBits, single, firstOf, firstSet, firstBit, noBit}
+use Rattle.headers.specs.Sets.{Header, Set, outside, contains, overlaps}
+use Rattle.headers.specs.Carving.{free, opposite, turned, taking, like, unlike, partsAt, parts, carve, one, holders}
+use Rattle.headers.proofs.Booleans.{_⇒_, _==_, and-fst, and-snd, same-true, implied, implies, always}
+use Rattle.headers.proofs.Positions.{every-at, every-of, words-ext}
+use Rattle.headers.proofs.Members.{contains-bits, member-exactly, outside-bit, outside-fits, overwritten-bit, overwritten-fits}
 use Rattle.headers.proofs.Intersection.{overlaps-bits, common-overlaps}
-use Rattle.headers.proofs.SetBits.{first-of, those-same, those-later, no-bit-none}
+use Rattle.headers.proofs.SetBits.{first-of, those-same, those-later, no-bit-none, none-no-bit}
 use Rattle.headers.proofs.Fixed.{free-bit, free-fits, opposite-bit, fixed-care, fixed-care-bit, fixed-value-bit, fixed-exact, taking-fixed}
 
 module _ (n : ℕ) (b : Set) (cb : Words n (b .care)) (vb : Words n (b .value)) where
@@ -54,8 +53,8 @@ module _ (n : ℕ) (b : Set) (cb : Words n (b .care)) (vb : Words n (b .value)) 
         (sym (fixed-care-bit n p (b .value) i j l ∙ ap (λ (x : Bool). bitAt (p .care) j || x) (ne-eqb i j d) ∙ or-false (bitAt (p .care) j)))
         ∙ sym (free-bit n (like n p b i) b (fixed-care n p (b .value) i cp) j l)
 
-    like-cares : bitAt (like n p b i .care) i ≡ true
-    like-cares =
+    cares-here : bitAt (like n p b i .care) i ≡ true
+    cares-here =
         fixed-care-bit n p (b .value) i i inside
         ∙ ap (λ (x : Bool). bitAt (p .care) i || x) (eq-eqb i i refl)
         ∙ mathlib.Core.Bool.or-true (bitAt (p .care) i)
@@ -63,7 +62,7 @@ module _ (n : ℕ) (b : Set) (cb : Words n (b .care)) (vb : Words n (b .value)) 
     like-not-free : bitAt (free n (like n p b i) b) i ≡ false
     like-not-free =
         free-bit n (like n p b i) b (fixed-care n p (b .value) i cp) i inside
-        ∙ ap (λ (x : Bool). bitAt (b .care) i && not x) like-cares
+        ∙ ap (λ (x : Bool). bitAt (b .care) i && not x) cares-here
         ∙ mathlib.Core.Bool.and-false (bitAt (b .care) i)
 
     like-overlaps : overlaps n p b ≡ true → overlaps n (like n p b i) b ≡ true
@@ -79,7 +78,7 @@ module _ (n : ℕ) (b : Set) (cb : Words n (b .care)) (vb : Words n (b .value)) 
     like-covered c j l e = go (ℕ-discrete i j)
       where
         go : Dec (i ≡ j) → bitAt (like n p b i .care) j ≡ true
-        go (yes d) = subst (λ (k : ℕ). bitAt (like n p b i .care) k ≡ true) d like-cares
+        go (yes d) = subst (λ (k : ℕ). bitAt (like n p b i .care) k ≡ true) d cares-here
         go (no d) =
             fixed-care-bit n p (b .value) i j (omega arith)
             ∙ ap (λ (x : Bool). x || eqb i j) (c j (omega arith) e)
@@ -165,71 +164,42 @@ module _ (n : ℕ) (b : Set) (cb : Words n (b .care)) (vb : Words n (b .value)) 
 
   -- ---- part by part
 
-  -- with no cut left there is no part, and else the cut's part comes first and its rest is carved on
-  pub parts-end : (p : Set) → nextCut n p b ≡ none → parts n p b ≡ []
-  unfolding nextCut parts partsAt
-  parts-end p e = go (setBits n (free n p b)) e
-    where
-      go : (l : List ℕ) → cutAt n p b l ≡ none → partsAt n p b l ≡ []
-      go [] e = refl
-      go (i ∷ l) e = let z : _≡_ {A = ℕ} 0 1 = cc in absurd (omega arith)
+  -- with no free bit there is no part
+  pub parts-none : (p : Set) → noBit n (free n p b) ≡ true → parts n p b ≡ []
+  unfolding parts partsAt
+  parts-none p e = ap (partsAt n p b) (no-bit-none n (free n p b) (free-fits n p b cb) e)
 
-  pub parts-next : (p : Set) → Words n (p .care) → (c : Cut) → nextCut n p b ≡ some c → parts n p b ≡ c .part ∷ parts n (c .rest) b
-  unfolding nextCut parts partsAt setBits
-  parts-next p cp c e = go (those (bitAt (free n p b)) (positions (n * 32) 0)) refl e
+  -- else the first part has the first free bit opposite to b's, and the later ones are those of p with that bit as in b
+  pub parts-first : (p : Set) → Words n (p .care) → noBit n (free n p b) ≡ false
+      → parts n p b ≡ taking n (firstBit n (free n p b)) (turned n b) p ∷ parts n (taking n (firstBit n (free n p b)) b p) b
+  unfolding parts partsAt setBits firstBit firstSet
+  parts-first p cp e = go (those (bitAt (free n p b)) (positions (n * 32) 0)) refl
     where
-      go : (l : List ℕ) → those (bitAt (free n p b)) (positions (n * 32) 0) ≡ l → cutAt n p b l ≡ some c
-          → partsAt n p b l ≡ c .part ∷ partsAt n (c .rest) b (those (bitAt (free n (c .rest) b)) (positions (n * 32) 0))
-      go [] d e = let z : _≡_ {A = ℕ} 0 1 = cc in absurd (omega arith)
-      go (i ∷ l) d e =
+      go : (l : List ℕ) → those (bitAt (free n p b)) (positions (n * 32) 0) ≡ l
+          → partsAt n p b l
+          ≡ taking n (single n (firstOf (n * 32) l)) (turned n b) p ∷ parts n (taking n (single n (firstOf (n * 32) l)) b p) b
+      go [] d = absurd (true≢false (sym (none-no-bit n (free n p b) (free-fits n p b cb) d) ∙ e))
+      go (i ∷ l) d =
           let f = first-of _ (n * 32) 0 i l d in
           let inside : i < n * 32 = omega (arith, f .high) in
-          let is : record { part = unlike n p b i; rest = like n p b i; last = noBit n (free n (like n p b i) b) } ≡ c = cc in
-          subst (λ (c : Cut). unlike n p b i ∷ partsAt n (like n p b i) b l ≡ c .part ∷ partsAt n (c .rest) b (those (bitAt (free n (c .rest) b)) (positions (n * 32) 0))) is
-          (ap (λ (m : List ℕ). unlike n p b i ∷ partsAt n (like n p b i) b m)
-          (sym (those-later _ _ (n * 32) 0 i l (λ j a m q. like-free p cp i inside (f .passes) j (omega arith) q) (like-not-free p cp i inside (f .passes)) d)))
-
-  -- nothing is cut off where no bit is free
-  cut-none : (p : Set) → noBit n (free n p b) ≡ true → nextCut n p b ≡ none
-  unfolding nextCut
-  cut-none p e = ap (cutAt n p b) (no-bit-none n (free n p b) (free-fits n p b cb) e)
-
-  cut-last : (p : Set) (c : Cut) → nextCut n p b ≡ some c → c .last ≡ noBit n (free n (c .rest) b)
-  unfolding nextCut
-  cut-last p c e = go (setBits n (free n p b)) e
-    where
-      go : (l : List ℕ) → cutAt n p b l ≡ some c → c .last ≡ noBit n (free n (c .rest) b)
-      go [] e = let z : _≡_ {A = ℕ} 0 1 = cc in absurd (omega arith)
-      go (i ∷ l) e =
-          let is : record { part = unlike n p b i; rest = like n p b i; last = noBit n (free n (like n p b i) b) } ≡ c = cc in
-          subst (λ (c : Cut). c .last ≡ noBit n (free n (c .rest) b)) is refl
-
-  -- a cut's part is the only one if no bit is left
-  pub parts-last : (p : Set) → Words n (p .care) → (c : Cut) → nextCut n p b ≡ some c → c .last ≡ true → parts n p b ≡ c .part ∷ []
-  parts-last p cp c e d = parts-next p cp c e ∙ ap (λ (l : List Set). c .part ∷ l) (parts-end (c .rest) (cut-none (c .rest) (sym (cut-last p c e) ∙ d)))
-
-  -- what the code cuts off: the first free bit opposite
-  abbrev pub cutBy : Set → List ℕ → Cut
-  cutBy p m = record { part = taking n m (turned n b) p; rest = taking n m b p; last = noBit n (free n (taking n m b p) b) }
-
-  pub cut-first : (p : Set) → Words n (p .care) → (firstSet n (free n p b) ≡ n * 32 → ⊥)
-      → nextCut n p b ≡ some (cutBy p (single n (firstSet n (free n p b))))
-  unfolding nextCut firstSet setBits
-  cut-first p cp e = go (those (bitAt (free n p b)) (positions (n * 32) 0)) refl e
-    where
-      go : (l : List ℕ) → those (bitAt (free n p b)) (positions (n * 32) 0) ≡ l → (firstOf (n * 32) l ≡ n * 32 → ⊥)
-          → cutAt n p b l ≡ some (cutBy p (single n (firstOf (n * 32) l)))
-      go [] d e = absurd (e refl)
-      go (i ∷ l) d e =
-          let f = first-of _ (n * 32) 0 i l d in
-          let cares = b-cares p cp i (omega (arith, f .high)) (f .passes) in
-          ap₂ (λ (s r : Set). some (record { part = s; rest = r; last = noBit n (free n r b) }))
+          let cares = b-cares p cp i inside (f .passes) in
+          ap (λ (m : List ℕ). unlike n p b i ∷ partsAt n (like n p b i) b m)
+          (sym (those-later _ _ (n * 32) 0 i l
+          (λ j a m q. like-free p cp i inside (f .passes) j (omega arith) q) (like-not-free p cp i inside (f .passes)) d))
+          ∙ ap₂ (λ (s r : Set). s ∷ parts n r b)
           (sym (taking-fixed n p (turned n b) i cp cb cares)) (sym (taking-fixed n p b i cp cb cares))
 
-  pub cut-nowhere : (p : Set) → firstSet n (free n p b) ≡ n * 32 → nextCut n p b ≡ none
-  unfolding nextCut firstSet setBits
-  cut-nowhere p e = go (those (bitAt (free n p b)) (positions (n * 32) 0)) refl e
-    where
-      go : (l : List ℕ) → those (bitAt (free n p b)) (positions (n * 32) 0) ≡ l → firstOf (n * 32) l ≡ n * 32 → cutAt n p b l ≡ none
-      go [] d e = refl
-      go (i ∷ l) d e = let f = first-of _ (n * 32) 0 i l d in absurd (omega (arith, f .high, e))
+  -- p with bits as in b can be carved on: its care is words of 32 bits
+  pub like-cares : (p : Set) (m : List ℕ) → Words n (taking n m b p .care)
+  like-cares p m = overwritten-fits n m (b .care) (p .care) cb
+
+  -- with the bits of a mask as in b, those outside the mask that were free are free still, and no others
+  pub free-later : (p : Set) → Words n (p .care) → (m : List ℕ) → Words n m → free n (taking n m b p) b ≡ outside n m (free n p b)
+  free-later p cp m wm = words-ext n _ _ (free-fits n (taking n m b p) b cb) (outside-fits n m (free n p b) (free-fits n p b cb)) λ i l.
+      free-bit n (taking n m b p) b (like-cares p m) i l
+      ∙ ap (λ (x : Bool). bitAt (b .care) i && not x) (overwritten-bit n m (b .care) (p .care) wm i l)
+      ∙ same-true _ _
+      (always (λ c d k y z. (d && not (c && not k || d && k)) == ((d && not c) && not k)) tt
+      (bitAt (p .care) i) (bitAt (b .care) i) (bitAt m i) true true)
+      ∙ ap (λ (x : Bool). x && not (bitAt m i)) (sym (free-bit n p b cp i l))
+      ∙ sym (outside-bit n m (free n p b) wm i l)

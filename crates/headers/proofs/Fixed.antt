@@ -2,31 +2,29 @@
 use mathlib.Core.Bool.{Bool, true, false, not, _&&_, _||_}
 use mathlib.Core.List.{List}
 use mathlib.Core.Path.{_≡_, refl, sym, ap, ap₂, _∙_}
-use Prim.Native.Nat.{ℕ, _*_, _/_, _^_, _<_}
-use native.Mathlib.Nat.{lt-of-le-of-lt}
+use Prim.Native.Nat.{ℕ, _*_, _/_, _<_}
 use native.Mathlib.Omega.{arith}
 use borrow.Author.Tests.{eq-eqb, eqb-true}
-use lib.Bits.{and-le-l, or-lt}
+use lib.Bits.{or-lt}
 use lib.Dec.{eqb}
-use Rattle.headers.specs.Bits.{word, every, Words, complement, bitAt, single}
-use Rattle.headers.specs.Sets.{Header, Set, overwrite, contains, WellFormed}
+use Rattle.headers.specs.Bits.{word, every, Words, bitAt, single}
+use Rattle.headers.specs.Sets.{Header, Set, overwritten, contains, WellFormed}
 use Rattle.headers.specs.Carving.{free, fixed, opposite, taking}
 use Rattle.headers.proofs.Booleans.{_⇒_, _==_, both-ways, same-true, implied, implies, always}
-use Rattle.headers.proofs.BitLaws.{bit-and, bit-or}
-use Rattle.headers.proofs.Positions.{at, every-at, every-of, every-same, every-and, words-fit, words-ext, bit-of-words, complement-at, single-fits, single-bit}
+use Rattle.headers.proofs.BitLaws.{bit-or}
+use Rattle.headers.proofs.Positions.{at, every-at, every-of, every-same, every-and, words-fit, words-ext, bit-of-words, complement-at}
+use Rattle.headers.proofs.Positions.{single-fits, single-bit}
 use Rattle.headers.proofs.Members.{contains-bits, value-inside, well-formed}
+use Rattle.headers.proofs.Members.{outside-bit, outside-fits, overwritten-bit, overwritten-fits}
 
 -- ---- the bits of what carving works with
 
 pub free-bit : (n : ℕ) (p b : Set) → Words n (p .care) → (i : ℕ) → i < n * 32
     → bitAt (free n p b) i ≡ (bitAt (b .care) i && not (bitAt (p .care) i))
-unfolding bitAt
-free-bit n p b c i l =
-    bit-of-words n _ i l ∙ bit-and _ _ _
-    ∙ ap (λ (x : Bool). at (word (b .care)) i && x) (complement-at (word (p .care)) i (c .fits (i / 32) (omega arith)))
+free-bit n p b = outside-bit n (p .care) (b .care)
 
 pub free-fits : (n : ℕ) (p b : Set) → Words n (b .care) → Words n (free n p b)
-free-fits n p b c = words-fit n _ (λ w l. lt-of-le-of-lt (and-le-l (word (b .care) w) _) (c .fits w l))
+free-fits n p b = outside-fits n (p .care) (b .care)
 
 pub opposite-bit : (n : ℕ) (x : List ℕ) → Words n x → (i : ℕ) → i < n * 32 → bitAt (opposite n x) i ≡ not (bitAt x i)
 unfolding bitAt
@@ -37,18 +35,11 @@ opposite-fits n x = words-fit n _ (λ w l. omega arith)
 
 -- ---- one bit overwritten
 
-overwritten-bit : (n i j : ℕ) → j < n * 32 → (x a : ℕ → ℕ)
-    → at (λ w. overwrite (word (single n i) w) (x w) (a w)) j ≡ (at a j && not (eqb i j) || at x j && eqb i j)
-unfolding bitAt
-overwritten-bit n i j l x a =
-    bit-or _ _ _
-    ∙ ap₂ _||_
-    (bit-and _ _ _ ∙ ap (λ (b : Bool). at a j && b)
-    (complement-at (word (single n i)) j (single-fits n i .fits (j / 32) (omega arith)) ∙ ap not (single-bit n i j l)))
-    (bit-and _ _ _ ∙ ap (λ (b : Bool). at x j && b) (single-bit n i j l))
-
-overwritten-fits : (m x a : ℕ) → a < 2 ^ 32 → x < 2 ^ 32 → overwrite m x a < 2 ^ 32
-overwritten-fits m x a ha hx = or-lt 32 _ _ (lt-of-le-of-lt (and-le-l a (complement m)) ha) (lt-of-le-of-lt (and-le-l x m) hx)
+one-overwritten : (n i j : ℕ) → j < n * 32 → (x a : List ℕ)
+    → bitAt (overwritten n (single n i) x a) j ≡ (bitAt a j && not (eqb i j) || bitAt x j && eqb i j)
+one-overwritten n i j l x a =
+    overwritten-bit n (single n i) x a (single-fits n i) j l
+    ∙ ap (λ (b : Bool). bitAt a j && not b || bitAt x j && b) (single-bit n i j l)
 
 -- ---- one bit fixed
 
@@ -63,18 +54,15 @@ module _ (n : ℕ) (p : Set) (x : List ℕ) (i : ℕ) where
 
   pub fixed-value-bit : (j : ℕ) → j < n * 32
       → bitAt (fixed n (single n i) x p .value) j ≡ (bitAt (p .value) j && not (eqb i j) || bitAt x j && eqb i j)
-  unfolding bitAt
-  fixed-value-bit j l = bit-of-words n _ j l ∙ overwritten-bit n i j l (word x) (word (p .value))
+  fixed-value-bit j l = one-overwritten n i j l x (p .value)
 
   pub fixed-well-formed : Words n x → WellFormed n p → WellFormed n (fixed n (single n i) x p)
-  fixed-well-formed fx w₀ = well-formed n (fixed n (single n i) x p) (fixed-care (w₀ .care)) value-fits λ j l.
+  fixed-well-formed fx w₀ = well-formed n (fixed n (single n i) x p)
+      (fixed-care (w₀ .care)) (overwritten-fits n (single n i) x (p .value) fx) λ j l.
       ap₂ _⇒_ (fixed-value-bit j l) (fixed-care-bit j l)
       ∙ implied _ _
       (always (λ c v x s z. (v ⇒ c) ⇒ (v && not s || x && s ⇒ c || s)) tt (bitAt (p .care) j) (bitAt (p .value) j) (bitAt x j) (eqb i j) true)
       (value-inside n p w₀ j l)
-    where
-      value-fits : Words n (fixed n (single n i) x p .value)
-      value-fits = words-fit n _ λ w l. overwritten-fits (word (single n i) w) (word x w) (word (p .value) w) (w₀ .value .fits w l) (fx .fits w l)
 
   -- a header is in it exactly if it is in p and has x's bit there
   pub fixed-exact : Words n (p .care) → i < n * 32 → bitAt (p .care) i ≡ false → (h : Header)
@@ -100,12 +88,10 @@ module _ (n : ℕ) (p : Set) (x : List ℕ) (i : ℕ) where
 -- taking a bit that b cares for from b is fixing it at b's value
 pub taking-fixed : (n : ℕ) (p b : Set) (i : ℕ) → Words n (p .care) → Words n (b .care) → bitAt (b .care) i ≡ true
     → taking n (single n i) b p ≡ fixed n (single n i) (b .value) p
-unfolding bitAt
 taking-fixed n p b i cp cb cares =
     ap (λ (c : List ℕ). record { care = c; value = taking n (single n i) b p .value })
-    (words-ext n _ _ (words-fit n _ (λ w l. overwritten-fits (word (single n i) w) (word (b .care) w) (word (p .care) w) (cp .fits w l) (cb .fits w l)))
-    (fixed-care n p (b .value) i cp) λ j l.
-    bit-of-words n _ j l ∙ overwritten-bit n i j l (word (b .care)) (word (p .care))
+    (words-ext n _ _ (overwritten-fits n (single n i) (b .care) (p .care) cb) (fixed-care n p (b .value) i cp) λ j l.
+    one-overwritten n i j l (b .care) (p .care)
     ∙ same-true _ _ (implied _ _
     (always (λ c d s y z. (s ⇒ d) ⇒ (c && not s || d && s) == (c || s)) tt (bitAt (p .care) j) (bitAt (b .care) j) (eqb i j) true true)
     (implies _ _ (λ e. ap (bitAt (b .care)) (sym (eqb-true i j e)) ∙ cares)))

@@ -1,4 +1,5 @@
--- Membership bit by bit, well-formed sets, the lowest header, and sets with the same members. For any number of words. Assumes nothing.
+-- Membership bit by bit, well-formed sets, the lowest header, what masks make, and sets with the same members. For any number of words.
+-- Assumes nothing.
 use mathlib.Core.Bool.{Bool, true, false, not, _&&_, _||_, true≢false, false≢true}
 use mathlib.Core.List.{List}
 use mathlib.Core.Logic.{_↔_}
@@ -7,11 +8,12 @@ use mathlib.Core.Path.{_≡_, refl, sym, ap, ap₂, _∙_}
 use Prim.Native.Nat.{ℕ, _-_, _*_, _/_, _%_, _<_}
 use native.Mathlib.Nat.{lt-of-le-of-lt}
 use native.Mathlib.Omega.{arith}
-use lib.Bits.{bitAnd, and-le-l, and-le-r}
+use lib.Bits.{bitAnd, and-le-l, and-le-r, or-lt}
 use lib.Dec.{eqb}
 use borrow.Author.Tests.{eq-eqb}
 use Rattle.headers.specs.Bits.{word, words, every, Words, complement, bitAt, single}
-use Rattle.headers.specs.Sets.{Header, Set, Rewrite, contains, tidy, WellFormed, Written, allWild, among, rewritten, lowest, Lower}
+use Rattle.headers.specs.Sets.{Header, Set, Rewrite, overwritten, outside, contains, tidy, WellFormed, Written, allWild, among}
+use Rattle.headers.specs.Sets.{rewritten, lowest, Lower}
 use Rattle.headers.proofs.Booleans.{_⇒_, _==_, and-fst, both-ways, same-true, true-same, implied, implies}
 use Rattle.headers.proofs.BitLaws.{bit-and, bit-or, bit-zero}
 use Rattle.headers.proofs.Positions.{at, every-at, every-of, every-same, words-fit, bit-of-words, complement-at, words-ext, same-on-bits, zero-bits, single-bit, single-fits}
@@ -99,6 +101,32 @@ lowest-value n s w = words-ext n (lowest n s) (s .value) (lowest-fits n s (w .ca
     absorbed true c e = e
     absorbed false c e = refl
 
+-- ---- what masks make
+
+pub outside-bit : (n : ℕ) (m l : List ℕ) → Words n m → (i : ℕ) → i < n * 32 → bitAt (outside n m l) i ≡ (bitAt l i && not (bitAt m i))
+unfolding bitAt
+outside-bit n m l f i k =
+    bit-of-words n _ i k ∙ bit-and _ _ _
+    ∙ ap (λ (b : Bool). at (word l) i && b) (complement-at (word m) i (f .fits (i / 32) (omega arith)))
+
+pub outside-fits : (n : ℕ) (m l : List ℕ) → Words n l → Words n (outside n m l)
+outside-fits n m l f = words-fit n _ (λ w k. lt-of-le-of-lt (and-le-l (word l w) _) (f .fits w k))
+
+pub overwritten-bit : (n : ℕ) (m x l : List ℕ) → Words n m → (i : ℕ) → i < n * 32
+    → bitAt (overwritten n m x l) i ≡ (bitAt l i && not (bitAt m i) || bitAt x i && bitAt m i)
+unfolding bitAt
+overwritten-bit n m x l f i k =
+    bit-of-words n _ i k ∙ bit-or _ _ _
+    ∙ ap₂ _||_
+    (bit-and _ _ _ ∙ ap (λ (b : Bool). at (word l) i && b) (complement-at (word m) i (f .fits (i / 32) (omega arith))))
+    (bit-and _ _ _)
+
+pub overwritten-fits : (n : ℕ) (m x l : List ℕ) → Words n x → Words n (overwritten n m x l)
+overwritten-fits n m x l f = words-fit n _ λ w k.
+    or-lt 32 _ _
+    (lt-of-le-of-lt (and-le-r (word l w) (complement (word m w))) (omega arith))
+    (lt-of-le-of-lt (and-le-l (word x w) (word m w)) (f .fits w k))
+
 -- ---- empty
 
 -- an answer that holds exactly the headers of P is empty exactly if P holds of none
@@ -125,18 +153,10 @@ flipped n h i = rewritten n (record { mask = single n i; value = words n (λ w. 
 
 pub rewritten-bit : (n : ℕ) (r : Rewrite) → Words n (r .mask) → (h : Header) (i : ℕ) → i < n * 32
     → bitAt (rewritten n r h) i ≡ (bitAt h i && not (bitAt (r .mask) i) || bitAt (r .value) i && bitAt (r .mask) i)
-unfolding bitAt
-rewritten-bit n r m h i l =
-    bit-of-words n _ i l ∙ bit-or _ _ _
-    ∙ ap₂ _||_
-    (bit-and _ _ _ ∙ ap (λ (x : Bool). at (word h) i && x) (complement-at (word (r .mask)) i (m .fits (i / 32) (omega arith))))
-    (bit-and _ _ _)
+rewritten-bit n r m h = overwritten-bit n (r .mask) (r .value) h m
 
 pub rewritten-fits : (n : ℕ) (r : Rewrite) → Written n r → (h : Header) → Words n (rewritten n r h)
-rewritten-fits n r f h = words-fit n _ λ w l.
-    lib.Bits.or-lt 32 _ _
-    (lt-of-le-of-lt (and-le-r (word h w) (complement (word (r .mask) w))) (omega arith))
-    (lt-of-le-of-lt (and-le-l (word (r .value) w) (word (r .mask) w)) (f .value .fits w l))
+rewritten-fits n r f h = overwritten-fits n (r .mask) (r .value) h (f .value)
 
 module _ (n : ℕ) (h : Header) (fh : Words n h) where
   flipped-bit : (i j : ℕ) → j < n * 32 → bitAt (flipped n h i) j ≡ (bitAt h j && not (eqb i j) || not (bitAt h j) && eqb i j)

@@ -1,15 +1,17 @@
 -- The set bits of a list of words, from first to last: the first of them, and what is left without it. Assumes nothing.
-use mathlib.Core.Bool.{Bool, true, false, not, false≢true}
+use mathlib.Core.Bool.{Bool, true, false, not, cond, false≢true}
 use mathlib.Core.List.{List, [], _∷_}
 use mathlib.Core.Path.{_≡_, refl, sym, ap, _∙_}
 use Prim.Native.Nat.{ℕ, zero, suc, _+_, _-_, _*_, _/_, _%_, _^_, _≤_, _<_}
 use native.Mathlib.Decide.{ℕ-discrete, decLt}
 use native.Mathlib.Omega.{arith}
-use borrow.Author.Count.{below-more}
-use lib.Count.{leadingZeros, leading-top, leading-of-zero}
-use Rattle.headers.specs.Bits.{word, Words, bit, bitAt, positions, keepIf, those, setBits, firstOf, firstSet, noBit}
+use borrow.Author.Tests.{ne-eqb}
+use lib.Count.{leadingZeros, leading-top}
+use lib.Dec.{eqb}
+use Rattle.headers.specs.Bits.{word, words, Words, bit, bitAt, positions, keepIf, those, setBits}
+use Rattle.headers.specs.Bits.{single, firstOf, firstSet, firstBit, noBit}
 use Rattle.headers.proofs.BitLaws.{bit-top, bit-high, bit-zero}
-use Rattle.headers.proofs.Positions.{every-at, every-of, zero-bits}
+use Rattle.headers.proofs.Positions.{every-at, every-of, words-same, zero-bits, single-fits}
 
 -- ---- those of some positions that pass a test
 
@@ -162,19 +164,32 @@ first-set-in n l w inside zeros p h =
             let a : k / 32 ≡ w = omega (arith, lo) in
             rw a (t .above (31 - k % 32) (omega (arith, lo)))
 
--- where all words before the last are 0, it is in the last or past it
-pub first-set-last : (n : ℕ) (l : List ℕ) → ((v : ℕ) → v < n → word l v ≡ 0) → word l n < 2 ^ 32
-    → firstSet (suc n) l ≡ n * 32 + leadingZeros 32 (word l n)
-unfolding firstSet setBits bitAt
-first-set-last n l zeros h = go (ℕ-discrete (word l n) 0)
-  where
-    none : word l n ≡ 0 → firstSet (suc n) l ≡ suc n * 32
-    none z = ap (firstOf (suc n * 32)) (those-none _ (suc n * 32) 0 λ i p m.
-        ap (λ (x : ℕ). bit x (31 - i % 32)) (below-more (λ v. word l v ≡ 0) n zeros z (i / 32) (omega arith)) ∙ bit-zero (31 - i % 32))
+-- ---- the first bit alone
 
-    go : Dec (word l n ≡ 0) → firstSet (suc n) l ≡ n * 32 + leadingZeros 32 (word l n)
-    go (yes z) = none z ∙ (let e : suc n * 32 ≡ n * 32 + leadingZeros 32 (word l n) = rw z (omega (arith, leading-of-zero 32)) in e)
-    go (no z) = first-set-in (suc n) l n (omega arith) zeros (omega arith) h
+pub first-bit-fits : (n : ℕ) (l : List ℕ) → Words n (firstBit n l)
+unfolding firstBit
+first-bit-fits n l = single-fits n (firstSet n l)
+
+-- no bit of n words is at the position past them
+single-past : (n : ℕ) → single n (n * 32) ≡ words n (λ w. 0)
+unfolding single
+single-past n = words-same n _ _ λ w l. rw (ne-eqb w (n * 32 / 32) (λ e. omega arith))
+
+-- where no bit is set there is no first one
+pub first-bit-none : (n : ℕ) (l : List ℕ) → Words n l → noBit n l ≡ true → firstBit n l ≡ words n (λ w. 0)
+unfolding firstBit firstSet
+first-bit-none n l w e = ap (λ (k : List ℕ). single n (firstOf (n * 32) k)) (no-bit-none n l w e) ∙ single-past n
+
+-- else it is the highest bit of the first word that is not 0
+pub first-bit-in : (n : ℕ) (l : List ℕ) (w : ℕ) → w < n → ((v : ℕ) → v < w → word l v ≡ 0) → 0 < word l w → word l w < 2 ^ 32
+    → firstBit n l ≡ words n (λ v. cond (eqb v w) (2 ^ (31 - leadingZeros 32 (word l w))) 0)
+unfolding firstBit single
+first-bit-in n l w inside zeros p h =
+    let t = top-bit (word l w) p h in
+    let i = first-set-in n l w inside zeros p h in
+    let a : firstSet n l / 32 ≡ w = omega (arith, t .is) in
+    let b : firstSet n l % 32 ≡ leadingZeros 32 (word l w) = omega (arith, t .is) in
+    simp (a, b)
 
 -- ---- from first to last
 

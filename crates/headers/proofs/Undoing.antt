@@ -1,33 +1,19 @@
 -- Undoing a rewrite is exact, for any number of words. Assumes nothing.
 use mathlib.Core.Bool.{Bool, true, false, not, _&&_, _||_, cond, true≢false}
 use mathlib.Core.Logic.{_↔_}
-use mathlib.Core.List.{List}
 use mathlib.Core.Option.{some, none}
 use mathlib.Core.Path.{_≡_, refl, sym, ap, ap₂, _∙_, subst}
-use Prim.Native.Nat.{ℕ, _*_, _/_, _<_}
-use native.Mathlib.Nat.{lt-of-le-of-lt}
+use Prim.Native.Nat.{ℕ, _*_}
 use native.Mathlib.Omega.{arith}
-use lib.Bits.{bitAnd, and-le-l}
-use Rattle.headers.specs.Bits.{word, words, Words, complement, bitAt}
+use Rattle.headers.specs.Bits.{Words, bitAt}
 use Rattle.headers.specs.Sets.{Header, Set, Rewrite, contains, WellFormed, overlaps, among, rewritten, writes, widened, undone, noRewrite}
 use Rattle.headers.proofs.Booleans.{_⇒_, _==_, refuted, same-true, implied, always}
-use Rattle.headers.proofs.BitLaws.{bit-and}
-use Rattle.headers.proofs.Positions.{at, every-at, every-of, every-same, words-fit, bit-of-words, complement-at, words-ext}
-use Rattle.headers.proofs.Members.{contains-bits, value-inside, well-formed, rewritten-bit, rewritten-fits, empty-exactly, no-bit, no-bits}
+use Rattle.headers.proofs.Positions.{every-at, every-of, every-same, words-ext}
+use Rattle.headers.proofs.Members.{contains-bits, value-inside, well-formed, outside-bit, outside-fits}
+use Rattle.headers.proofs.Members.{rewritten-bit, rewritten-fits, empty-exactly, no-bit, no-bits}
 use Rattle.headers.proofs.Intersection.{overlaps-bits}
 
 module _ (n : ℕ) (r : Rewrite) (t : Set) (m : Words n (r .mask)) where
-  -- the bits of a list of words outside the mask
-  outside-bit : (l : List ℕ) (i : ℕ) → i < n * 32
-      → bitAt (words n (λ w. bitAnd (word l w) (complement (word (r .mask) w)))) i ≡ (bitAt l i && not (bitAt (r .mask) i))
-  unfolding bitAt
-  outside-bit l i k =
-      bit-of-words n _ i k ∙ bit-and _ _ _
-      ∙ ap (λ (x : Bool). at (word l) i && x) (complement-at (word (r .mask)) i (m .fits (i / 32) (omega arith)))
-
-  outside-fits : (l : List ℕ) → Words n l → Words n (words n (λ w. bitAnd (word l w) (complement (word (r .mask) w))))
-  outside-fits l f = words-fit n _ (λ w k. lt-of-le-of-lt (and-le-l (word l w) _) (f .fits w k))
-
   module _ (c : Words n (t .care)) where
     -- what rewrites into t agrees with t where t cares for a masked bit
     rewrites-overlap : (h : Header) → contains n t (rewritten n r h) ≡ true → overlaps n t (writes r) ≡ true
@@ -40,9 +26,9 @@ module _ (n : ℕ) (r : Rewrite) (t : Set) (m : Words n (r .mask)) where
 
     widened-exact : overlaps n t (writes r) ≡ true → (h : Header) → contains n (widened n (r .mask) t) h ≡ contains n t (rewritten n r h)
     widened-exact o h =
-        contains-bits n (widened n (r .mask) t) (outside-fits (t .care) c) h
+        contains-bits n (widened n (r .mask) t) (outside-fits n (r .mask) (t .care) c) h
         ∙ every-same (n * 32) _ _ (λ i l.
-        ap₂ (λ (x y : Bool). x ⇒ bitAt h i == y) (outside-bit (t .care) i l) (outside-bit (t .value) i l)
+        ap₂ (λ (x y : Bool). x ⇒ bitAt h i == y) (outside-bit n (r .mask) (t .care) m i l) (outside-bit n (r .mask) (t .value) m i l)
         ∙ same-true _ _ (implied _ _
         (always (λ h m x c v. (c && m ⇒ v == x) ⇒ (c && not m ⇒ h == (v && not m)) == (c ⇒ (h && not m || x && m) == v)) tt
         (bitAt h i) (bitAt (r .mask) i) (bitAt (r .value) i) (bitAt (t .care) i) (bitAt (t .value) i))
@@ -64,8 +50,9 @@ module _ (n : ℕ) (r : Rewrite) (t : Set) (m : Words n (r .mask)) where
   undone-well-formed wt s e = go (overlaps n t (writes r)) e
     where
       widened-well-formed : WellFormed n (widened n (r .mask) t)
-      widened-well-formed = well-formed n (widened n (r .mask) t) (outside-fits (t .care) (wt .care)) (outside-fits (t .value) (wt .value)) λ i l.
-          ap₂ _⇒_ (outside-bit (t .value) i l) (outside-bit (t .care) i l)
+      widened-well-formed = well-formed n (widened n (r .mask) t)
+          (outside-fits n (r .mask) (t .care) (wt .care)) (outside-fits n (r .mask) (t .value) (wt .value)) λ i l.
+          ap₂ _⇒_ (outside-bit n (r .mask) (t .value) m i l) (outside-bit n (r .mask) (t .care) m i l)
           ∙ implied _ _
           (always (λ v c m x y. (v ⇒ c) ⇒ (v && not m ⇒ c && not m)) tt (bitAt (t .value) i) (bitAt (t .care) i) (bitAt (r .mask) i) true true)
           (value-inside n t wt i l)

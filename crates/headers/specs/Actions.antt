@@ -80,6 +80,10 @@ untransferred n Swap t = some (movedSet n swapped t)
 unfoldable pub unacted : ℕ → Act → Set → Option Set
 unacted n a t = bind (undone n (a .rewrite) t) (untransferred n (a .transfer))
 
+-- T4: the headers of a match that a transfer takes into a set
+unfoldable pub metBefore : ℕ → Set → Transfer → Set → Option Set
+metBefore n matches transfer s = bind (untransferred n transfer s) (λ s. intersection n s matches)
+
 -- T4: the headers of a match that an action takes into a set
 unfoldable pub before : ℕ → Set → Act → Set → Option Set
 before n matches a t = bind (unacted n a t) (λ s. intersection n s matches)

@@ -68,6 +68,10 @@ firstOf otherwise (i ∷ later) = i
 unfoldable pub firstSet : ℕ → List ℕ → ℕ
 firstSet n l = firstOf (n * 32) (setBits n l)
 
+-- the first bit that is set in n words, alone; no bit where none is
+unfoldable pub firstBit : ℕ → List ℕ → List ℕ
+firstBit n l = single n (firstSet n l)
+
 -- no word has a bit set
 abbrev pub noBit : ℕ → List ℕ → Bool
 noBit n l = every n (λ w. eqb (word l w) 0)

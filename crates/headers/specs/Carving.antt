@@ -1,9 +1,8 @@
 -- Carving P by B over n words: document 01, "Carving P by B". Assumes nothing.
 use mathlib.Core.Bool.{Bool, true, false, _||_, cond}
 use mathlib.Core.List.{List, [], _∷_}
-use mathlib.Core.Option.{Option, some, none}
 use Prim.Native.Nat.{ℕ, _+_}
-use Rattle.headers.specs.Bits.{word, words, complement, setBits, single, noBit}
+use Rattle.headers.specs.Bits.{word, words, complement, setBits, single}
 use Rattle.headers.specs.Sets.{Header, Set, overwritten, outside, either, contains, overlaps}
 
 -- "the bits .. that B cares for and P doesn't"
@@ -46,22 +45,6 @@ parts n p b = partsAt n p b (setBits n (free n p b))
 -- "if they don't intersect, P alone. Else .. No such bit: no part."
 unfoldable pub carve : ℕ → Set → Set → List Set
 carve n p b = cond (overlaps n p b) (parts n p b) (p ∷ [])
-
--- ---- carving part by part
-
--- one part, what P is for the parts after it, and whether no such bit is left
-pub record Cut : Type 0 where
-  pub part : Set
-  pub rest : Set
-  pub last : Bool
-
-abbrev pub cutAt : ℕ → Set → Set → List ℕ → Option Cut
-cutAt n p b [] = none
-cutAt n p b (i ∷ later) = some (record { part = unlike n p b i; rest = like n p b i; last = noBit n (free n (like n p b i) b) })
-
--- the first of the parts, if there is one
-unfoldable pub nextCut : ℕ → Set → Set → Option Cut
-nextCut n p b = cutAt n p b (setBits n (free n p b))
 
 -- ---- what is said of the parts
 

@@ -1,10 +1,10 @@
--- E8, E9 and E10 of document 01, the carving of E2, and where the published method misleads; each computed.
+-- E8, E9 and E10 of document 01, the carving of E2, the first set bit, and where the published method misleads; each computed.
 use mathlib.Core.Bool.{true, false}
 use mathlib.Core.List.{[], _∷_}
 use mathlib.Core.Option.{some, none, bind}
 use mathlib.Core.Path.{_≡_, refl}
 use Prim.Native.Nat.{ℕ}
-use Rattle.headers.specs.Bits.{bit, bitAt, positions, those, setBits, single}
+use Rattle.headers.specs.Bits.{bit, bitAt, positions, those, setBits, single, firstSet, firstBit}
 use Rattle.headers.specs.Sets.{Header, Set, allWild, intersection, undone}
 use Rattle.headers.specs.Actions.{Act, unacted, before}
 use Rattle.headers.specs.declared.Transfer.the-variants.{Keep}
@@ -47,6 +47,15 @@ E2-parts : carve 4 (record { care = header 0 0xffffffff 0 0; value = header 0 0x
     ∷ []
 unfolding bit bitAt positions those setBits single partsAt parts carve
 E2-parts = refl
+
+-- in document 01's order the first bit is the highest of the first word that is not 0
+first-of-several : firstBit 4 (header 0 0x00000a01 0xffffffff 0x80000000) ≡ header 0 0x00000800 0 0
+unfolding bit bitAt positions those setBits single firstSet firstBit
+first-of-several = refl
+
+first-of-none : firstBit 4 (header 0 0 0 0) ≡ header 0 0 0 0
+unfolding bit bitAt positions those setBits single firstSet firstBit
+first-of-none = refl
 
 -- "A beater on nw_src 10.0.0.1 and tp_dst 80 leaves tp_dst 80 from other sources."
 abbrev beater : Set

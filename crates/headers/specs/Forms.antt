@@ -3,11 +3,9 @@ use mathlib.Core.Option.{Option, some, none}
 use mathlib.Core.Bool.{true, false}
 use Rattle.headers.specs.Sets.{Set, Rewrite, allWild}
 use Rattle.headers.specs.Actions.{Act}
-use Rattle.headers.specs.Carving.{Cut}
 use Rattle.headers.specs.declared.HeaderSet.{HeaderSet}
 use Rattle.headers.specs.declared.Action.{Action}
 use Rattle.headers.specs.declared.MaybeSet.{MaybeSet}
-use Rattle.headers.specs.declared.NextPart.{NextPart}
 
 abbrev pub setOf : HeaderSet → Set
 setOf s = record { care = s .care; value = s .value }
@@ -26,8 +24,3 @@ formOf s = record { care = s .care; value = s .value }
 abbrev pub maybeOf : Option Set → MaybeSet
 maybeOf none = record { some = false; set = formOf (allWild 4) }
 maybeOf (some s) = record { some = true; set = formOf s }
-
--- 'no part' is `some` false, with all-wild sets in the unused places
-abbrev pub nextOf : Option Cut → NextPart
-nextOf none = record { some = false; last = false; part = formOf (allWild 4); rest = formOf (allWild 4) }
-nextOf (some c) = record { some = true; last = c .last; part = formOf (c .part); rest = formOf (c .rest) }

@@ -2,17 +2,15 @@
 // Document 01, "Header sets", and document 02, 2.5. What each call means is in specs/: Sets, Actions and Carving, for any number of words;
 // what follows from it is in proofs/: Members, Intersection, Undoing, Acting, Carved, Parts.
 ghost use mathlib.Core.Path.{_≡_};
-ghost use mathlib.Core.Bool.{cond};
-ghost use Prim.Native.Nat.{_-_, _/_, _%_, _^_, _≤_};
+ghost use Prim.Native.Nat.{_-_, _^_, _<_};
 ghost use lib.Count.{leadingZeros};
-ghost use lib.Dec.{eqb};
-ghost use Rattle.headers.specs.Bits.{noBit, firstSet, single};
+ghost use Rattle.headers.specs.Bits.{noBit, firstBit};
 ghost use Rattle.headers.specs.Sets.{agree, overwritten, outside, both, either, contains, tidy, overlaps, joined, intersection};
 ghost use Rattle.headers.specs.Sets.{widened, undone, lowest, allWild, writes};
-ghost use Rattle.headers.specs.Actions.{moved, copied, swapped, transferred, acted, movedSet, uncopied, untransferred, before};
-ghost use Rattle.headers.specs.Actions.{noAction};
-ghost use Rattle.headers.specs.Carving.{free, turned, taking, nextCut};
-ghost use Rattle.headers.specs.Forms.{setOf, rewriteOf, actOf, formOf, maybeOf, nextOf};
+ghost use Rattle.headers.specs.Actions.{moved, copied, swapped, transferred, acted, movedSet, uncopied, untransferred, metBefore};
+ghost use Rattle.headers.specs.Actions.{before, noAction};
+ghost use Rattle.headers.specs.Carving.{free, turned, taking};
+ghost use Rattle.headers.specs.Forms.{setOf, rewriteOf, actOf, formOf, maybeOf};
 
 // The headers that equal the value on every care bit.
 pub struct HeaderSet {
@@ -38,14 +36,6 @@ pub struct Action {
 pub struct MaybeSet {
     pub some: bool,
     pub set: HeaderSet,
-}
-
-// The first part of a carving, whether it is the last, and the set that the later parts are made of; no part where `some` is false.
-pub struct NextPart {
-    pub some: bool,
-    pub last: bool,
-    pub part: HeaderSet,
-    pub rest: HeaderSet,
 }
 
 impl HeaderSet {
@@ -184,8 +174,8 @@ impl HeaderSet {
         }
     }
 
-    // The bits that b cares for and this set doesn't.
-    fn free(self, b: HeaderSet) -> [u32; 4]
+    // The bits that b cares for and this set doesn't: carving by b, which the set overlaps, makes a part at each, from first to last.
+    pub fn free(self, b: HeaderSet) -> [u32; 4]
         ensures { λ r. ⌜ r ≡ free 4 (setOf self) (setOf b) ⌝ }
     {
         let c = self.care;
@@ -217,29 +207,18 @@ impl HeaderSet {
         }
     }
 
-    // The first part of this set carved by b, which it overlaps. Carving goes on with `rest` in the set's place.
-    pub fn next_part(self, b: HeaderSet) -> NextPart
-        ensures { λ r. ⌜ r ≡ nextOf (nextCut 4 (setOf self) (setOf b)) ⌝ }
+    // The set with a free bit opposite to b's: the part at that bit, if it is the first that is free.
+    pub fn unlike(self, bit: [u32; 4], b: HeaderSet) -> HeaderSet
+        ensures { λ r. ⌜ r ≡ formOf (taking 4 bit (turned 4 (setOf b)) (setOf self)) ⌝ }
     {
-        let i = first_set(self.free(b));
-        if i == 128 {
-            return NextPart {
-                some: false,
-                last: false,
-                part: HeaderSet::all_wild(),
-                rest: HeaderSet::all_wild(),
-            };
-        }
-        let first = single(i);
-        let part = self.taking(first, b.turned());
-        let rest = self.taking(first, b);
-        let last = none_set(rest.free(b));
-        NextPart {
-            some: true,
-            last,
-            part,
-            rest,
-        }
+        self.taking(bit, b.turned())
+    }
+
+    // The set with a free bit as in b: the parts at the later bits are made of it.
+    pub fn like(self, bit: [u32; 4], b: HeaderSet) -> HeaderSet
+        ensures { λ r. ⌜ r ≡ formOf (taking 4 bit (setOf b) (setOf self)) ⌝ }
+    {
+        self.taking(bit, b)
     }
 }
 
@@ -277,26 +256,29 @@ impl Action {
     pub fn undo(self, t: HeaderSet, matching: HeaderSet) -> MaybeSet
         ensures { λ r. ⌜ r ≡ maybeOf (before 4 (setOf matching) (actOf self) (setOf t)) ⌝ }
     {
-        let transfer = self.transfer;
         let unwritten = self.unwritten(t);
         if !unwritten.some {
             return unwritten;
         }
         let s = unwritten.set;
-        // the usual case by itself, which the compiler makes vector code of
-        if let Transfer::Keep = transfer {
-            return s.intersect(matching);
-        }
+        self.met_before(s, matching)
+    }
+
+    // The headers of a match that its transfer takes into s.
+    pub fn met_before(self, s: HeaderSet, matching: HeaderSet) -> MaybeSet
+        ensures { λ r. ⌜ r ≡ maybeOf (metBefore 4 (setOf matching) (self .transfer) (setOf s)) ⌝ }
+    {
+        let transfer = self.transfer;
         let untransferred = s.untransferred(transfer);
         if !untransferred.some {
             return untransferred;
         }
-        let s = untransferred.set;
-        s.intersect(matching)
+        let moved = untransferred.set;
+        moved.intersect(matching)
     }
 
     // The headers that its rewrite takes into t.
-    fn unwritten(self, t: HeaderSet) -> MaybeSet
+    pub fn unwritten(self, t: HeaderSet) -> MaybeSet
         ensures { λ r. ⌜ r ≡ maybeOf (undone 4 (rewriteOf self) (setOf t)) ⌝ }
     {
         if t.overlaps(self.writes()) {
@@ -339,7 +321,7 @@ fn either(x: [u32; 4], y: [u32; 4]) -> [u32; 4]
 }
 
 // The bits of x outside a mask.
-fn outside(m: [u32; 4], x: [u32; 4]) -> [u32; 4]
+pub fn outside(m: [u32; 4], x: [u32; 4]) -> [u32; 4]
     ensures { λ r. ⌜ r ≡ outside 4 m x ⌝ }
 {
     [x[0] & !m[0], x[1] & !m[1], x[2] & !m[2], x[3] & !m[3]]
@@ -382,53 +364,35 @@ fn transferred(transfer: Transfer, h: [u32; 4]) -> [u32; 4]
     }
 }
 
-fn none_set(x: [u32; 4]) -> bool
+pub fn none_set(x: [u32; 4]) -> bool
     ensures { λ r. ⌜ r ≡ noBit 4 x ⌝ }
 {
     (x[0] == 0) & (x[1] == 0) & (x[2] == 0) & (x[3] == 0)
 }
 
-fn leading_zeros(x: u32) -> u32
-    ensures { λ r. ⌜ (r ≡ leadingZeros 32 x) × (r ≤ 32) ⌝ }
+// The highest set bit of a word that is not 0.
+fn top(x: u32) -> u32
+    requires { ⌜ 0 < x ⌝ }
+    ensures { λ r. ⌜ r ≡ 2 ^ (31 - leadingZeros 32 x) ⌝ }
 {
-    u32::leading_zeros(x)
+    1u32 << (31 - u32::leading_zeros(x))
 }
 
-// The position of the first set bit; 128 where none is set.
-fn first_set(x: [u32; 4]) -> u32
-    ensures { λ r. ⌜ r ≡ firstSet 4 x ⌝ }
+// The first set bit alone, in document 01's order; no bit where none is set.
+pub fn first_bit(x: [u32; 4]) -> [u32; 4]
+    ensures { λ r. ⌜ r ≡ firstBit 4 x ⌝ }
 {
     if x[0] != 0 {
-        return leading_zeros(x[0]);
+        return [top(x[0]), 0, 0, 0];
     }
     if x[1] != 0 {
-        return 32 + leading_zeros(x[1]);
+        return [0, top(x[1]), 0, 0];
     }
     if x[2] != 0 {
-        return 64 + leading_zeros(x[2]);
+        return [0, 0, top(x[2]), 0];
     }
-    96 + leading_zeros(x[3])
-}
-
-// Word w of four words with the one bit at position i.
-fn single_at(i: u32, w: u32) -> u32
-    ensures { λ r. ⌜ r ≡ cond (eqb w (i / 32)) (2 ^ (31 - i % 32)) 0 ⌝ }
-{
-    if i / 32 == w {
-        1u32 << (31 - i % 32)
-    } else {
-        0
+    if x[3] != 0 {
+        return [0, 0, 0, top(x[3])];
     }
-}
-
-// Four words with the one bit at position i.
-fn single(i: u32) -> [u32; 4]
-    ensures { λ r. ⌜ r ≡ single 4 i ⌝ }
-{
-    [
-        single_at(i, 0),
-        single_at(i, 1),
-        single_at(i, 2),
-        single_at(i, 3),
-    ]
+    [0, 0, 0, 0]
 }

@@ -1,3 +1,3 @@
 pub mod Chained
-pub mod PlaceRead
+pub mod Placed
 pub mod Steps

@@ -19,8 +19,8 @@ firstOf t (suc k) j = cond (t j) j (firstOf t k (suc j))
 unfoldable pub nextWith : (ℕ → ℕ) → ℕ → ℕ → ℕ → ℕ
 nextWith portOf n p j = firstOf (λ e. eqb (portOf e) p) (n - j) j
 
--- Cells `first`, `first` + 1, .. hold by port the first entry from entry `from` on with that port, and cells `next`, `next` + 1, .. by entry,
--- from `from` on, the next entry with the same port.
+-- Cells `first`, `first` + 1, .. hold by port the first entry from entry `from` on with that port, and cells `next`, `next` + 1, .. by
+-- entry, from `from` on, the next entry with the same port.
 pub record Chain (n : ℕ) (portOf : ℕ → ℕ) (first next from : ℕ) (cells : List ℕ) : Type 0 where
   pub heads : (p : ℕ) → p < 4096 → getD cells (first + p) 0 ≡ nextWith portOf n p from
   pub links : (e : ℕ) → from ≤ e → e < n → getD cells (next + e) 0 ≡ nextWith portOf n (portOf e) (suc e)

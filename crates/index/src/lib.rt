@@ -1,18 +1,24 @@
 // The index of an accepted file, made once a call: see specs/Index.antt.
 use records::Shape;
 ghost use mathlib.Core.Path.{_≡_};
-ghost use Prim.Native.Nat.{suc, _+_, _-_, _≤_, _<_};
-ghost use lib.ListN.{getD};
-ghost use Rattle.records.specs.Records.{fromOfLink};
-ghost use Rattle.questions.specs.Tables.{EdgeTable, EndTable};
+ghost use Prim.Native.Nat.{suc, _+_, _<_};
+ghost use lib.ListN.{getD, replicate};
 ghost use Rattle.file.specs.Accepted.{Accepted};
-ghost use Rattle.index.specs.Index.{Index, placeAt, firstOut, firstIn, nextOut, nextIn};
-ghost use Rattle.index.specs.Building.{Placed, Partly, pushed};
+ghost use Rattle.index.specs.Chains.{noEntry};
+ghost use Rattle.index.specs.Index.{Index, placeAt, firstOut, firstIn, nextOut, nextIn, ranks, indexLong};
+ghost use Rattle.index.specs.Building.{noPlace, placeAfter, Placed, Partly, pushed};
 
 // What stands for 'no entry', at the end of a chain.
 pub const NO_ENTRY: usize = 512;
 
-// Where the index's parts after the places begin: the first entry with an out-port, with an in-port, and the next entry likewise.
+// What a cell holds that is not used yet.
+pub const UNUSED: u16 = 512;
+
+// The place of the port of edge k is k more than this; every port is less.
+pub const FIRST_EDGE: usize = 4096;
+
+// Where the index's parts after the places begin: the first entry with an out-port, with an in-port, the next entry likewise, and an
+// entry's priority.
 const FIRST_OUT: usize = 4096;
 
 const FIRST_IN: usize = 8192;
@@ -21,62 +27,69 @@ const NEXT_OUT: usize = 12288;
 
 const NEXT_IN: usize = 12800;
 
+const RANKS: usize = 13312;
+
+// How many cells the index has.
+pub const CELLS: usize = 13824;
+
 // ---- making the index
 
-// The from-port of the link with the number l, which counts from 1.
-fn from_port(file: &[u8], shape: Shape, l: u16) -> u16
-    requires { ⌜ Accepted (now file) shape ⌝ }
-    requires { ⌜ 1 ≤ l ⌝ }
-    requires { ⌜ l ≤ shape .links ⌝ }
-    ensures { λ r. ⌜ r ≡ fromOfLink (now (file .entry)) (shape .edges) (l - 1) ⌝ }
-{
-    file::link_from(file, shape, (l - 1) as usize) as u16
-}
-
-// Where a part at in-port x comes from. The tables' numbers count from 1, so 4,095 more is 4,096 + k at edge k.
-fn place(file: &[u8], shape: Shape, edge_of: &[u16; 4096], ends: &[u16; 4096], x: usize) -> u16
-    requires { ⌜ Accepted (now file) shape ⌝ }
-    requires { ⌜ EdgeTable (now file) (shape .edges) (now «edge_of») ⌝ }
-    requires { ⌜ EndTable (now file) (shape .edges) (shape .links) (now ends) ⌝ }
-    requires { ⌜ x < 4096 ⌝ }
-    ensures { λ r. ⌜ r ≡ placeAt (now (file .entry)) x ⌝ }
-{
-    let k = edge_of[x];
-    if k != 0 {
-        return 4095 + k;
-    }
-    let l = ends[x];
-    if l == 0 {
-        return 0;
-    }
-    from_port(file, shape, l)
-}
-
-// The places, over an array that holds 'no entry' everywhere.
-fn places(
-    file: &[u8],
-    shape: Shape,
-    edge_of: &[u16; 4096],
-    ends: &[u16; 4096],
-    index: &mut [u16; 13312],
-)
-    requires { ⌜ Accepted (now file) shape ⌝ }
-    requires { ⌜ EdgeTable (now file) (shape .edges) (now «edge_of») ⌝ }
-    requires { ⌜ EndTable (now file) (shape .edges) (shape .links) (now ends) ⌝ }
-    requires { ⌜ Placed (now file) 0 (now index) ⌝ }
-    ensures { λ _. ⌜ Placed (now (file .entry)) 4096 (now (index .exit)) ⌝ }
+// Place 0, where a part comes from nowhere, at every port.
+fn clear_places(index: &mut [u16; CELLS])
+    requires { ⌜ Placed noPlace 0 (now index) ⌝ }
+    ensures { λ _. ⌜ Placed noPlace 4096 (now (index .exit)) ⌝ }
 {
     let mut x: usize = 0;
-    while x < 4096 {
-        index[x] = place(file, shape, edge_of, ends, x);
+    while x < FIRST_OUT {
+        index[x] = 0;
         x += 1;
     }
 }
 
+// The places of the edge ports.
+fn edge_places(file: &[u8], shape: Shape, index: &mut [u16; CELLS])
+    requires { ⌜ Accepted (now file) shape ⌝ }
+    requires { ⌜ Placed noPlace 4096 (now index) ⌝ }
+    ensures { λ _. ⌜ Placed (placeAfter (now (file .entry)) (shape .edges) 0) 4096 (now (index .exit)) ⌝ }
+{
+    let mut k: usize = 0;
+    while k < shape.edges {
+        let port = records::port(file::edge(file, k));
+        index[port as usize] = (FIRST_EDGE + k) as u16;
+        k += 1;
+    }
+}
+
+// The places of the ports where a link ends, none of which is an edge port.
+fn link_places(file: &[u8], shape: Shape, index: &mut [u16; CELLS])
+    requires { ⌜ Accepted (now file) shape ⌝ }
+    requires { ⌜ Placed (placeAfter (now file) (shape .edges) 0) 4096 (now index) ⌝ }
+    ensures { λ _. ⌜ Placed (placeAt (now (file .entry))) 4096 (now (index .exit)) ⌝ }
+{
+    let mut l: usize = 0;
+    while l < shape.links {
+        let from = file::link_from(file, shape, l);
+        let to = file::link_to(file, shape, l);
+        index[to as usize] = from as u16;
+        l += 1;
+    }
+}
+
+// The places, over an array that holds 'no entry' everywhere: by the records there are, as ports are many and edges and links few.
+fn places(file: &[u8], shape: Shape, index: &mut [u16; CELLS])
+    requires { ⌜ Accepted (now file) shape ⌝ }
+    requires { ⌜ Placed noPlace 0 (now index) ⌝ }
+    ensures { λ _. ⌜ Placed (placeAt (now (file .entry))) 4096 (now (index .exit)) ⌝ }
+{
+    clear_places(index);
+    edge_places(file, shape, index);
+    link_places(file, shape, index);
+}
+
 // Entry e goes to the front of a chain.
-fn push(index: &mut [u16; 13312], first: usize, next: usize, e: usize)
-    requires { ⌜ first < 13312 ⌝ }
-    requires { ⌜ next < 13312 ⌝ }
+fn push(index: &mut [u16; CELLS], first: usize, next: usize, e: usize)
+    requires { ⌜ first < indexLong ⌝ }
+    requires { ⌜ next < indexLong ⌝ }
     requires { ⌜ e < 512 ⌝ }
     ensures { λ _. ⌜ now (index .exit) ≡ pushed (now (index .entry)) first next e ⌝ }
 {
@@ -84,8 +97,8 @@ fn push(index: &mut [u16; 13312], first: usize, next: usize, e: usize)
     index[first] = e as u16;
 }
 
-// Entry e goes to the front of its two chains.
-fn chain_entry(file: &[u8], shape: Shape, e: usize, index: &mut [u16; 13312])
+// Entry e goes to the front of its two chains, and its priority into its cell.
+fn chain_entry(file: &[u8], shape: Shape, e: usize, index: &mut [u16; CELLS])
     requires { ⌜ Accepted (now file) shape ⌝ }
     requires { ⌜ e < shape .entries ⌝ }
     requires { ⌜ Partly (now file) (suc e) (now index) ⌝ }
@@ -94,12 +107,14 @@ fn chain_entry(file: &[u8], shape: Shape, e: usize, index: &mut [u16; 13312])
     let x = file::entry(file, shape, e);
     let out = records::out_port(x) as usize;
     let into = records::in_port(x) as usize;
+    let rank = records::priority(x);
     push(index, FIRST_OUT + out, NEXT_OUT + e, e);
     push(index, FIRST_IN + into, NEXT_IN + e, e);
+    index[RANKS + e] = rank as u16;
 }
 
 // The chains, from the last entry to the first, so that each runs in file order.
-fn chains(file: &[u8], shape: Shape, index: &mut [u16; 13312])
+fn chains(file: &[u8], shape: Shape, index: &mut [u16; CELLS])
     requires { ⌜ Accepted (now file) shape ⌝ }
     requires { ⌜ Partly (now file) (shape .entries) (now index) ⌝ }
     ensures { λ _. ⌜ Index (now (file .entry)) (now (index .exit)) ⌝ }
@@ -111,30 +126,27 @@ fn chains(file: &[u8], shape: Shape, index: &mut [u16; 13312])
     }
 }
 
-// The index of an accepted file, from its tables of edges and of link ends.
-pub fn build(file: &[u8], shape: Shape, edge_of: &[u16; 4096], ends: &[u16; 4096]) -> [u16; 13312]
+// The index of an accepted file, made in the caller's array, in which no cell is used yet.
+pub fn fill(file: &[u8], shape: Shape, index: &mut [u16; CELLS])
     requires { ⌜ Accepted (now file) shape ⌝ }
-    requires { ⌜ EdgeTable (now file) (shape .edges) (now «edge_of») ⌝ }
-    requires { ⌜ EndTable (now file) (shape .edges) (shape .links) (now ends) ⌝ }
-    ensures { λ r. ⌜ Index (now (file .entry)) r ⌝ }
+    requires { ⌜ now index ≡ replicate indexLong noEntry ⌝ }
+    ensures { λ _. ⌜ Index (now (file .entry)) (now (index .exit)) ⌝ }
 {
-    let mut index = [512u16; 13312];
-    places(file, shape, edge_of, ends, &mut index);
-    chains(file, shape, &mut index);
-    index
+    places(file, shape, index);
+    chains(file, shape, index);
 }
 
 // ---- reading the index
 
 // What is read behind a reference is known to fit its type once it is a parameter.
 fn wide(v: u16) -> usize
-    ensures { λ r. ⌜ r ≡ v ⌝ }
+    ensures { λ r. ⌜ (r ≡ v) × (r < 65536) ⌝ }
 {
     v as usize
 }
 
 // Where a part at this in-port comes from.
-pub fn place_at(index: &[u16; 13312], port: usize) -> usize
+pub fn place_at(index: &[u16; CELLS], port: usize) -> usize
     requires { ⌜ port < 4096 ⌝ }
     ensures { λ r. ⌜ r ≡ getD (now (index .entry)) port 0 ⌝ }
 {
@@ -142,7 +154,7 @@ pub fn place_at(index: &[u16; 13312], port: usize) -> usize
 }
 
 // The first entry with this out-port.
-pub fn first_out(index: &[u16; 13312], port: usize) -> usize
+pub fn first_out(index: &[u16; CELLS], port: usize) -> usize
     requires { ⌜ port < 4096 ⌝ }
     ensures { λ r. ⌜ r ≡ getD (now (index .entry)) (firstOut + port) 0 ⌝ }
 {
@@ -150,7 +162,7 @@ pub fn first_out(index: &[u16; 13312], port: usize) -> usize
 }
 
 // The first entry with this in-port.
-pub fn first_in(index: &[u16; 13312], port: usize) -> usize
+pub fn first_in(index: &[u16; CELLS], port: usize) -> usize
     requires { ⌜ port < 4096 ⌝ }
     ensures { λ r. ⌜ r ≡ getD (now (index .entry)) (firstIn + port) 0 ⌝ }
 {
@@ -158,7 +170,7 @@ pub fn first_in(index: &[u16; 13312], port: usize) -> usize
 }
 
 // The next entry with the out-port of entry e.
-pub fn next_out(index: &[u16; 13312], e: usize) -> usize
+pub fn next_out(index: &[u16; CELLS], e: usize) -> usize
     requires { ⌜ e < 512 ⌝ }
     ensures { λ r. ⌜ r ≡ getD (now (index .entry)) (nextOut + e) 0 ⌝ }
 {
@@ -166,9 +178,17 @@ pub fn next_out(index: &[u16; 13312], e: usize) -> usize
 }
 
 // The next entry with the in-port of entry e.
-pub fn next_in(index: &[u16; 13312], e: usize) -> usize
+pub fn next_in(index: &[u16; CELLS], e: usize) -> usize
     requires { ⌜ e < 512 ⌝ }
     ensures { λ r. ⌜ r ≡ getD (now (index .entry)) (nextIn + e) 0 ⌝ }
 {
     wide(index[NEXT_IN + e])
+}
+
+// The priority of entry e.
+pub fn rank(index: &[u16; CELLS], e: usize) -> u32
+    requires { ⌜ e < 512 ⌝ }
+    ensures { λ r. ⌜ r ≡ getD (now (index .entry)) (ranks + e) 0 ⌝ }
+{
+    wide(index[RANKS + e]) as u32
 }

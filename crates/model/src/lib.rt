@@ -1,17 +1,26 @@
 // The entries of an accepted file that may take a header. What a file's fabric is, is in specs/Model.antt.
 use records::Shape;
 ghost use mathlib.Core.Path.{_≡_};
-ghost use Prim.Native.Nat.{_≤_, _<_};
+ghost use Prim.Native.Nat.{ℕ, _≤_, _<_};
+ghost use lib.Dec.{leb};
 ghost use Rattle.file.specs.Accepted.{Accepted};
 ghost use Rattle.forwarding.specs.Fabric.{outranks};
 ghost use Rattle.model.specs.Model.{fabricIn};
 ghost use Rattle.model.specs.Taking.{Takes, Better};
 
-// Does an entry of priority p beat one of priority q at the same in-port? The tie rule stands here alone.
+// Does an entry of priority p beat one of priority q at the same in-port? The tie rule stands here, and in `least_above`, alone.
 pub fn outranks(p: u32, q: u32) -> bool
     ensures { λ r. ⌜ r ≡ outranks p q ⌝ }
 {
     q < p
+}
+
+// The least priority that beats priority q, so that one number tells an entry's beaters.
+pub fn least_above(q: u32) -> u32
+    requires { ⌜ q < 65536 ⌝ }
+    ensures { λ r. ⌜ ((p : ℕ) → leb r p ≡ outranks p q) ⌝ }
+{
+    q + 1
 }
 
 // One of the highest entries that match so far, and whether another of its priority does; the number of entries stands for 'none'.

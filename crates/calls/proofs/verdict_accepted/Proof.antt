@@ -59,7 +59,7 @@ module _ (c : tie.Else2) where
 -- after the pass
 module _ (p : tie.After-pass) where
   abbrev before-pass : tie.Else2
-  before-pass = p .before .before .before .before
+  before-pass = p .before .before .before .before .before
 
   abbrev s : tie.Start
   s = start before-pass
@@ -94,15 +94,15 @@ returns-2 c =
     let s = c .before .before .before .before .before in
     no-room (f s) (q s) (a s) _ (c .before .before .target-no .ensures) (c .before .if1 .left) (c .if2 .taken)
 
-build-requires : tie.Need-build-requires
-build-requires c κs = search needs
+fill-requires : tie.Need-fill-requires
+fill-requires c κs = search needs
 
 pass-requires : tie.Need-pass-requires
 unfolding f q a
 pass-requires c κs =
-    let asked = c .before .before .before in
+    let asked = c .before .before .before .before in
     let pre = start asked .pre in
-    (pre .0, (pre .1 .0, (c .before .before .build .ensures, (yeses asked .0, (yeses asked .1, λ e. room asked)))))
+    (pre .0, (pre .1, (c .before .before .fill .ensures, (yeses asked .0, (yeses asked .1, λ e. room asked)))))
 
 same-length : tie.Need-same-length
 same-length c = search needs
@@ -158,7 +158,7 @@ verdict-accepted-spec =
     cast-result
     returns
     returns-2
-    build-requires
+    fill-requires
     pass-requires
     same-length
     returns-3

@@ -5,7 +5,9 @@ use Prim.Native.Nat.{ℕ}
 use borrow.Author.Tests.{lt-ltb, le-ltb}
 use borrow.Author.Needs.{needs}
 use denote.Ref.{now}
+use lib.ListN.{getD}
 use lib.Seq.{getD-set-same}
+use Rattle.events.specs.Play.{tooMany}
 use Rattle.events.proofs.count_find.Statement.{statement}
 use Rattle.events.proofs.count_find.Tie as tie
 
@@ -24,10 +26,13 @@ element-write-counters c = search needs
 returns : tie.Need-returns
 returns c =
     let l : List ℕ = now (c .before .before .before .args .counters) in
-    (search needs, (getD-set-same l 1 _ 0 (search needs) ∙ rw (lt-ltb _ _ (c .before .if1 .taken), c .words-of .ensures), search needs))
+    let below = lt-ltb (getD l 1 0) tooMany (c .before .if1 .taken) in
+    (search needs, (getD-set-same l 1 _ 0 (search needs) ∙ rw (below, c .words-of .ensures), search needs))
 
 returns-2 : tie.Need-returns-2
-returns-2 c = (search needs, (rw (le-ltb _ _ (c .if1 .left)), search needs))
+returns-2 c =
+    let l : List ℕ = now (c .before .before .args .counters) in
+    (search needs, (rw (le-ltb (getD l 1 0) tooMany (c .if1 .left)), search needs))
 
 pub count-find-spec : {M : Type 1} → statement M
 count-find-spec =

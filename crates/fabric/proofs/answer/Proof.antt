@@ -51,8 +51,8 @@ enum-known-shape c = search needs
 
 answer-accepted-requires : tie.Need-answer-accepted-requires
 answer-accepted-requires c κs =
-    let found = c .before .before .before .before .before in
-    (is-accepted found, (tables found .edge-at, (tables found .start-at, tables found .end-at)))
+    let found = c .before .before .before .before in
+    (is-accepted found, (tables found .edge-at, tables found .start-at))
 
 returns : tie.Need-returns
 unfolding refused asked
@@ -68,9 +68,9 @@ same-length c = search needs
 returns-2 : tie.Need-returns-2
 unfolding asked
 returns-2 c =
-    let s = c .before .before .before .before .before .before .before .before .before .before .before .before .before .before .before .before in
+    let s = c .before .before .before .before .before .before .before .before .before .before .before .before .before .before .before in
     c .before .before .answer-accepted .ensures
-    ∙ ap (λ (r : Read). answerOf (s .args .call) (now (s .args .file)) (asked s) r (now (s .args .area))) (sym (is-accepted (c .before .before .before .before .before .before .before .before)))
+    ∙ ap (λ (r : Read). answerOf (s .args .call) (now (s .args .file)) (asked s) r (now (s .args .area))) (sym (is-accepted (c .before .before .before .before .before .before .before)))
     ∙ call-answers (s .args .call) (now (s .args .file)) (asked s) (now (s .args .area))
 
 pub answer-spec : {M : Type 1} → statement M

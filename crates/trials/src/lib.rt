@@ -1,0 +1,48 @@
+// A part tried against the entries of an in-port, in file order, until it meets one: specs/Trials.antt. So carving goes straight on to the
+// next beater that a part meets, and the beaters passed over cost a unit and nothing else.
+use headers::HeaderSet;
+use index::CELLS;
+use index::NO_ENTRY;
+ghost use mathlib.Core.Path.{_≡_};
+ghost use lib.ListN.{length, getD};
+ghost use Rattle.headers.specs.Forms.{setOf};
+ghost use Rattle.model.specs.Model.{fabricIn};
+ghost use Rattle.index.specs.Index.{Index};
+ghost use Rattle.entries.specs.Entries.{EntriesFrom, OfChain};
+ghost use Rattle.events.specs.Asked.{budgetOf};
+ghost use Rattle.trials.specs.Trials.{trialsFrom, NextMet};
+
+// What stands for 'the budget is used', beside the entries and what ends a chain.
+const BUDGET_USED: usize = NO_ENTRY + 1;
+
+// The first entry that p meets, of those at the in-port of entry j, from j on, of this priority or higher; a unit for each one tried.
+pub fn next_met(
+    file: &[u8],
+    ask: &[u32; 6],
+    base: usize,
+    index: &[u16; CELLS],
+    least: u32,
+    j: usize,
+    p: HeaderSet,
+    counters: &mut [u64; 2],
+) -> usize
+    requires { ⌜ EntriesFrom (now file) base ⌝ }
+    requires { ⌜ Index (now file) (now index) ⌝ }
+    requires { ⌜ OfChain (fabricIn (now file) .entries) j ⌝ }
+    requires { ⌜ length (now counters) ≡ 2 ⌝ }
+    ensures { λ r. ⌜ NextMet (trialsFrom (fabricIn (now (file .entry))) (budgetOf (now (ask .entry))) least j (setOf p) (getD (now (counters .entry)) 0 0)) (now (counters .entry)) r (now (counters .exit)) ⌝ }
+{
+    let mut b = j;
+    while b < NO_ENTRY {
+        if least <= index::rank(index, b) {
+            if !events::unit(ask, counters) {
+                return BUDGET_USED;
+            }
+            if p.overlaps(entries::match_at(file, base, b)) {
+                return b;
+            }
+        }
+        b = index::next_in(index, b);
+    }
+    b
+}
