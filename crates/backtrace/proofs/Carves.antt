@@ -6,7 +6,7 @@ use Prim.Native.Nat.{ℕ, suc, _+_, _-_, _<_}
 use native.Mathlib.Omega.{arith}
 use lib.ListN.{length, getD, drop}
 use Rattle.headers.specs.Bits.{Words, firstBit, noBit}
-use Rattle.headers.specs.Sets.{Set, WellFormed, outside, overlaps}
+use Rattle.headers.specs.Sets.{Set, WellFormed, outside}
 use Rattle.headers.specs.Carving.{free, turned, taking, parts, carve}
 use Rattle.headers.specs.Forms.{setOf, formOf}
 use Rattle.headers.specs.declared.HeaderSet.{HeaderSet}

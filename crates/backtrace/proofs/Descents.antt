@@ -1,14 +1,14 @@
 -- The ways through `descend`: an entry was met, none was, or the budget is used.
-use mathlib.Core.Bool.{Bool, true, cond}
-use mathlib.Core.List.{List, [], _∷_}
+use mathlib.Core.Bool.{Bool, cond}
+use mathlib.Core.List.{List, []}
 use mathlib.Core.Path.{_≡_, sym, ap, _∙_}
-use Prim.Native.Nat.{ℕ, suc, _≤_, _<_}
+use Prim.Native.Nat.{ℕ, _≤_, _<_}
 use native.Mathlib.Omega.{arith}
 use borrow.Author.Tests.{lt-ltb, le-ltb, ne-eqb}
 use lib.Dec.{eqb}
 use lib.ListN.{length, getD}
 use Rattle.headers.specs.Sets.{Set}
-use Rattle.forwarding.specs.Trace.{Event, unit}
+use Rattle.forwarding.specs.Trace.{Event}
 use Rattle.model.specs.Model.{AFabric}
 use Rattle.index.specs.Chains.{noEntry}
 use Rattle.index.specs.Index.{Index, placeAt}

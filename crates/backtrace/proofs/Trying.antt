@@ -1,14 +1,13 @@
 -- The events of a part's trials, played: what is left of them goes by how the trials end.
 use mathlib.Core.Bool.{Bool, true, false, cond, _&&_}
-use mathlib.Core.List.{List, [], _∷_, _++_, flatMap, append-nil}
+use mathlib.Core.List.{List, [], _∷_, flatMap, append-nil}
 use mathlib.Core.Path.{_≡_, refl, sym, ap, _∙_}
 use Prim.Native.Nat.{ℕ, zero, suc, _+_, _-_, _≤_}
-use native.Mathlib.Decide.{decLt}
 use native.Mathlib.Omega.{arith}
 use lib.Dec.{eqb, leb, ltb}
-use lib.ListN.{length, getD}
+use lib.ListN.{getD}
 use Rattle.headers.specs.Bits.{positions, keepIf, those}
-use Rattle.headers.specs.Sets.{Set, overlaps}
+use Rattle.headers.specs.Sets.{Set}
 use Rattle.headers.specs.Carving.{parts, carve}
 use Rattle.forwarding.specs.Fabric.{Fabric, inPortOf, priorityOf}
 use Rattle.forwarding.specs.Trace.{Find, Event, unit, carved}
@@ -19,10 +18,10 @@ use Rattle.entries.specs.Entries.{rankedFrom}
 use Rattle.entries.proofs.Entries.{entries-few}
 use Rattle.entries.proofs.Ranked.{ranked-next}
 use Rattle.events.specs.Play.{World, Played, andThen, unitMade, makeUnit, step, play}
-use Rattle.events.specs.Asked.{budgetOf, worldOf, playedOf, foundBy}
+use Rattle.events.specs.Asked.{budgetOf, worldOf, foundBy}
 use Rattle.trials.specs.Trials.{Ending, met, past, used, endingAt, Tried, tried, meets, trialsFrom, NextMet}
 use Rattle.trials.proofs.Next.{trial-refused, trial-met, trial-passed}
-use Rattle.trials.proofs.Found.{MetFrom, ending-found, entry-found, budget-found-used, found-later, units-within}
+use Rattle.trials.proofs.Found.{ending-found, entry-found, budget-found-used, found-later, units-within}
 use Rattle.backtrace.specs.Cycle.{Tracing, Traced, Ended, survivorEvents, eventsFrom, eventsCut, eventsAfter}
 use Rattle.backtrace.proofs.Steps.{run}
 

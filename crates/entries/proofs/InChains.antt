@@ -7,7 +7,7 @@ use native.Mathlib.Omega.{arith}
 use lib.ListN.{getD}
 use Rattle.index.specs.Chains.{noEntry, Chain}
 use Rattle.index.proofs.Chained.{Next, next-found}
-use Rattle.entries.specs.Entries.{OfChain, InChain}
+use Rattle.entries.specs.Entries.{InChain}
 
 module _ {portOf : ℕ → ℕ} {n first next : ℕ} {cells : List ℕ} (small : n ≤ noEntry) (c : Chain n portOf first next 0 cells) where
   -- the first entry with the port p

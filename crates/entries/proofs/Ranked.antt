@@ -1,5 +1,5 @@
 -- The entries of an in-port from a priority on, along the chain of that in-port; an entry's beaters are such.
-use mathlib.Core.Bool.{Bool, true, false, _&&_}
+use mathlib.Core.Bool.{Bool, false, _&&_}
 use mathlib.Core.List.{List, [], _∷_}
 use mathlib.Core.Path.{_≡_, refl, sym, ap, ap₂, _∙_}
 use Prim.Native.Nat.{ℕ, suc, _+_, _-_, _≤_, _<_}
@@ -10,17 +10,15 @@ use lib.Dec.{eqb, leb}
 use lib.ListN.{getD}
 use Rattle.headers.specs.Bits.{positions, those}
 use Rattle.headers.proofs.SetBits.{those-same}
-use Rattle.records.specs.Records.{entryIn}
 use Rattle.forwarding.specs.Fabric.{Fabric, inPortOf, priorityOf, outranks, beats}
 use Rattle.forwarding.specs.BackTrace.{beaters}
 use Rattle.model.specs.Model.{AFabric, fabricIn}
-use Rattle.index.specs.Chains.{noEntry}
-use Rattle.index.specs.Index.{Index, firstIn, nextIn}
+use Rattle.index.specs.Index.{Index, nextIn}
 use Rattle.index.proofs.Chained.{Next}
-use Rattle.entries.specs.Entries.{IsEntry, rankedFrom, chained}
+use Rattle.entries.specs.Entries.{rankedFrom, chained}
 use Rattle.entries.proofs.Those.{from-here, from-end, from-skip}
-use Rattle.entries.proofs.Entries.{entries-few, in-port-is}
-use Rattle.entries.proofs.InChains.{chain-head, chain-next}
+use Rattle.entries.proofs.Entries.{entries-few}
+use Rattle.entries.proofs.InChains.{chain-next}
 
 -- ---- an entry's beaters
 
@@ -70,12 +68,6 @@ module _ (f : Fabric) (q : ℕ) where
 -- ---- what the index's chains by in-port say
 
 module _ {f cells : List ℕ} (a : AFabric f) (i : Index f cells) where
-  -- the first entry with the in-port of entry e
-  pub first-with : {e : ℕ} {x : List ℕ} → IsEntry f e x → (p r : ℕ) → p ≡ entryIn x → r ≡ getD cells (firstIn + p) 0
-      → Next (inPortOf (fabricIn f)) (fabricIn f .entries) (inPortOf (fabricIn f) e) 0 r
-  first-with {e} k p r h d =
-      rw (in-port-is a k, ← h) (chain-head (entries-few a) (i .by-in-port) p r (omega arith) d)
-
   -- the next one with the in-port of entry b
   pub next-with : (b r : ℕ) → b < fabricIn f .entries → r ≡ getD cells (nextIn + b) 0
       → Next (inPortOf (fabricIn f)) (fabricIn f .entries) (inPortOf (fabricIn f) b) (suc b) r

@@ -14,7 +14,7 @@ use Rattle.questions.specs.Tables.{number}
 use Rattle.questions.proofs.Lists.{recent-more, recent-long, number-has}
 use Rattle.file.specs.Accepted.{Accepted}
 use Rattle.file.proofs.Accepted.{no-edge-at-to}
-use Rattle.model.specs.Model.{shapeIn, edgeAt, linkEnding, fabricOf, fabricIn}
+use Rattle.model.specs.Model.{edgeAt, linkEnding, fabricOf, fabricIn}
 use Rattle.model.proofs.Shapes.{shape-is}
 use Rattle.index.specs.Chains.{noEntry}
 use Rattle.index.specs.Index.{placeAt, indexLong}

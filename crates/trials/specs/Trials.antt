@@ -1,6 +1,6 @@
 -- A part tried against entries one after the other, until it meets one (T16): which of them that is, and the units made on the way. It
 -- knows neither what the part is carved for nor what comes of it.
-use mathlib.Core.Bool.{Bool, true, false, cond}
+use mathlib.Core.Bool.{Bool, true, cond}
 use mathlib.Core.List.{List, [], _∷_}
 use mathlib.Core.Option.{Option, some, none}
 use mathlib.Core.Path.{_≡_}

@@ -1,5 +1,5 @@
 -- `least_above` meets its contract: strictly above q is from q + 1 on.
-use mathlib.Core.Path.{_≡_, ap}
+use mathlib.Core.Path.{ap}
 use Prim.Native.Nat.{ℕ}
 use native.Mathlib.Numerals.{add-one}
 use borrow.Author.Needs.{needs}

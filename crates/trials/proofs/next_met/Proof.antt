@@ -3,23 +3,20 @@
 use mathlib.Core.Bool.{Bool}
 use mathlib.Core.List.{List}
 use mathlib.Core.Logic.{⊎-elim}
-use mathlib.Core.Path.{_≡_, sym, ap, ap₂, _∙_}
-use Prim.Native.Nat.{ℕ, suc, _+_, _-_, _≤_, _<_}
+use mathlib.Core.Path.{_≡_, sym, ap₂, _∙_}
+use Prim.Native.Nat.{ℕ, _+_, _-_, _<_}
 use native.Mathlib.Omega.{arith}
 use borrow.Author.Needs.{needs}
 use borrow.Author.Tests.{not-true, not-false}
-use denote.Ref.{now}
 use lib.ListN.{getD}
 use Rattle.headers.specs.Sets.{Set, overlaps}
 use Rattle.headers.specs.Forms.{setOf}
-use Rattle.forwarding.specs.Fabric.{inPortOf, priorityOf}
+use Rattle.forwarding.specs.Fabric.{priorityOf}
 use Rattle.model.specs.Model.{AFabric, fabricIn}
-use Rattle.index.specs.Chains.{noEntry}
-use Rattle.index.specs.Index.{Index, ranks, nextIn}
-use Rattle.index.proofs.Chained.{Next}
+use Rattle.index.specs.Index.{Index, ranks}
 use Rattle.entries.proofs.Entries.{entries-few, four-words}
 use Rattle.entries.proofs.Ranked.{next-with}
-use Rattle.events.specs.Asked.{budgetOf, UnitMade}
+use Rattle.events.specs.Asked.{budgetOf}
 use Rattle.trials.specs.Trials.{meets}
 use Rattle.trials.proofs.Walk.{unit-counted, AtTrial, first-trial, walk-ends, ranked-lower, refused-at, met-at, passed-over}
 use Rattle.trials.proofs.next_met.Statement.{statement}

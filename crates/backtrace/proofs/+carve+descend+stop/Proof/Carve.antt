@@ -1,11 +1,10 @@
 -- What `carve` asks to be proved: its loop is at a part (`AtPart` of proofs/Carves.antt), and each way out and each turn is a law there.
 use mathlib.Core.Path.{sym, _∙_}
-use Prim.Native.Nat.{ℕ, suc, _-_}
+use Prim.Native.Nat.{ℕ}
 use native.Mathlib.Omega.{arith}
 use borrow.Author.Needs.{needs}
 use borrow.Author.Tests.{not-true, not-false}
 use borrow.Fn.Kinds.{In, Out}
-use denote.Ref.{now}
 use lib.ListN.{length}
 use Rattle.headers.specs.Carving.{parts}
 use Rattle.headers.specs.Forms.{setOf}

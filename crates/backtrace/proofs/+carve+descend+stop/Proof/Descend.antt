@@ -1,10 +1,8 @@
 -- What `descend` asks to be proved: each of its three ways is a law of proofs/Descents.antt.
-use Prim.Native.Nat.{ℕ, _-_, _<_}
+use Prim.Native.Nat.{ℕ, _<_}
 use native.Mathlib.Omega.{arith}
 use borrow.Author.Needs.{needs}
 use borrow.Fn.Kinds.{In, Out}
-use denote.Ref.{now}
-use Rattle.headers.specs.Forms.{setOf}
 use Rattle.index.specs.Chains.{noEntry}
 use Rattle.backtrace.proofs.Paths.{kept-same}
 use Rattle.backtrace.proofs.Descents.{descended-met, place-found, descended-past, descended-used}
