@@ -9,6 +9,15 @@ use crate::set::Set;
 const SITES: u16 = 12;
 const HOSTS: u16 = 2;
 
+/// A kind of port is numbered from here, by site.
+const EDGE_UP: u16 = 100;
+const DISTRIBUTION_DOWN: u16 = 200;
+const DISTRIBUTION_UP: u16 = 300;
+const CORE_DOWN: u16 = 400;
+/// To the core before on the ring, and to the next.
+const CORE_BACK: u16 = 500;
+const CORE_ON: u16 = 600;
+
 const DENY: u16 = 30;
 const ROUTE: u16 = 20;
 const DEFAULT: u16 = 10;
@@ -35,38 +44,11 @@ fn host_port(site: u16, host: u16) -> u16 {
     1 + site * HOSTS + host
 }
 
-/// From the edge switch to the distribution, and so on up.
-fn edge_up(site: u16) -> u16 {
-    100 + site
-}
-
-fn distribution_down(site: u16) -> u16 {
-    200 + site
-}
-
-fn distribution_up(site: u16) -> u16 {
-    300 + site
-}
-
-fn core_down(site: u16) -> u16 {
-    400 + site
-}
-
-/// To the core before on the ring.
-fn core_back(site: u16) -> u16 {
-    500 + site
-}
-
-/// To the next core on the ring.
-fn core_on(site: u16) -> u16 {
-    600 + site
-}
-
 fn add_links(fabric: &mut Fabric, site: u16) {
     let pairs = [
-        (edge_up(site), distribution_down(site)),
-        (distribution_up(site), core_down(site)),
-        (core_on(site), core_back((site + 1) % SITES)),
+        (EDGE_UP + site, DISTRIBUTION_DOWN + site),
+        (DISTRIBUTION_UP + site, CORE_DOWN + site),
+        (CORE_ON + site, CORE_BACK + (site + 1) % SITES),
     ];
     for (one, other) in pairs {
         fabric.links.push(Link {
@@ -81,7 +63,7 @@ fn add_links(fabric: &mut Fabric, site: u16) {
 }
 
 fn add_edge_switch(fabric: &mut Fabric, site: u16) {
-    let up = edge_up(site);
+    let up = EDGE_UP + site;
     for host in 0..HOSTS {
         let port = host_port(site, host);
         let other = (host + 1) % HOSTS;
@@ -99,7 +81,7 @@ fn add_edge_switch(fabric: &mut Fabric, site: u16) {
 
 /// What is for the own site and comes from below would come back for ever.
 fn add_distribution(fabric: &mut Fabric, site: u16) {
-    let (down, up) = (distribution_down(site), distribution_up(site));
+    let (down, up) = (DISTRIBUTION_DOWN + site, DISTRIBUTION_UP + site);
     fabric.entries.extend([
         deny(DENY, down, to_site(site)),
         deny(DENY, down, from_outside()),
@@ -110,7 +92,7 @@ fn add_distribution(fabric: &mut Fabric, site: u16) {
 }
 
 fn add_core(fabric: &mut Fabric, site: u16) {
-    let (down, back, on) = (core_down(site), core_back(site), core_on(site));
+    let (down, back, on) = (CORE_DOWN + site, CORE_BACK + site, CORE_ON + site);
     fabric
         .entries
         .extend([entry(DEFAULT, down, back), entry(DEFAULT, down, on)]);
