@@ -28,8 +28,8 @@ use Rattle.backtrace.proofs.Paths.{kept-same, kept-on}
 use Rattle.backtrace.proofs.Tracings.{after-call}
 
 -- the entry after b in the chain of their in-port
-pub next-along : {f cells : List ℕ} → AFabric f → Index f cells → {x b : ℕ} {p : Set} → Met (fabricIn f) x p b → (r : ℕ) → r ≡ getD cells
-    (nextIn + b) 0
+pub next-along : {f cells : List ℕ} → AFabric f → Index f cells → {x b : ℕ} {p : Set} → Met (fabricIn f) x p b
+    → (r : ℕ) → r ≡ getD cells (nextIn + b) 0
     → Next (inPortOf (fabricIn f)) (fabricIn f .entries) x (suc b) r
 next-along a i {x} {b} m r h = rw (m .in-port) at (next-with a i b r (m .is-entry) h)
 
@@ -49,10 +49,10 @@ pub record AtPart (f ask index : List ℕ) (x q b : ℕ) (m : Set) (d : ℕ) (pa
       run f ask (flatMap (eventsFrom f x q (suc b) (d - floorOf ask) (drop d path₀)) (parts 4 rest m)) counters area
       ≡ run f ask (eventsCut f x q b (d - floorOf ask) (drop d path₀) p₀) counters₀ area₀
 
-pub first-part : {f ask index : List ℕ} {d : ℕ} {path counters area : List ℕ} → Tracing f ask index d path counters area → {x b : ℕ}
-    {p : Set}
-    → Met (fabricIn f) x p b → (q : ℕ) {m : Set} → m ≡ fabricIn f .entry b .matches → Words 4 (p .care) → {bits : List ℕ} → bits
-    ≡ free 4 p m
+pub first-part : {f ask index : List ℕ} {d : ℕ} {path counters area : List ℕ} → Tracing f ask index d path counters area
+    → {x b : ℕ} {p : Set}
+    → Met (fabricIn f) x p b → (q : ℕ) {m : Set} → m ≡ fabricIn f .entry b .matches → Words 4 (p .care)
+    → {bits : List ℕ} → bits ≡ free 4 p m
     → AtPart f ask index x q b m d path counters area p path counters area p bits
 unfolding eventsCut carve
 first-part {f} {ask} {d = d} {path} {counters} {area} t {x} {b} {p} i q {m} h c e =
@@ -70,8 +70,8 @@ first-part {f} {ask} {d = d} {path} {counters} {area} t {x} {b} {p} i q {m} h c 
           ∙ ap₂ (λ (n : ℕ) (m : Set). parts n p m) (four-words f) (sym h)));
     }
 
-module _ {f ask index : List ℕ} {x q b : ℕ} {m : Set} {d : ℕ} {path₀ counters₀ area₀ : List ℕ} {p₀ : Set} {path counters area : List ℕ}
-    {rest : Set} {bits : List ℕ}
+module _ {f ask index : List ℕ} {x q b : ℕ} {m : Set} {d : ℕ} {path₀ counters₀ area₀ : List ℕ} {p₀ : Set}
+    {path counters area : List ℕ} {rest : Set} {bits : List ℕ}
     (at : AtPart f ask index x q b m d path₀ counters₀ area₀ p₀ path counters area rest bits) where
   -- the events of one part, and of all
   abbrev of-part : Set → List Event
@@ -112,7 +112,8 @@ module _ {f ask index : List ℕ} {x q b : ℕ} {m : Set} {d : ℕ} {path₀ cou
     bit-fits = rw is-bit (first-bit-fits 4 bits)
 
     later-is : {later : List ℕ} → later ≡ outside 4 bit bits → later ≡ free 4 rest′ m
-    later-is e = e ∙ ap (outside 4 bit) (at .bits-are) ∙ sym (free-later 4 m (at .m-care) (at .m-value) rest (at .rest-care) bit bit-fits)
+    later-is e = e ∙ ap (outside 4 bit) (at .bits-are)
+        ∙ sym (free-later 4 m (at .m-care) (at .m-value) rest (at .rest-care) bit bit-fits)
 
     module _ {part : HeaderSet} (is-part : part ≡ formOf (taking 4 bit (turned 4 m) rest)) {later : List ℕ}
         (is-later : later ≡ outside 4 bit bits)
@@ -121,7 +122,8 @@ module _ {f ask index : List ℕ} {x q b : ℕ} {m : Set} {d : ℕ} {path₀ cou
       played : playedOf r counters′ area′ ≡ run f ask (of-part (taking 4 bit (turned 4 m) rest)) counters area
       played =
           w .played
-          ∙ ap₂ (λ (way : List ℕ) (s : HeaderSet). run f ask (eventsFrom f x q (suc b) (d - floorOf ask) way (setOf s)) counters area)
+          ∙ ap₂ (λ (way : List ℕ) (s : HeaderSet). run f ask
+          (eventsFrom f x q (suc b) (d - floorOf ask) way (setOf s)) counters area)
           (at .kept .later) is-part
 
       -- with the later ones it is all that was left
@@ -143,7 +145,8 @@ module _ {f ask index : List ℕ} {x q b : ℕ} {m : Set} {d : ℕ} {path₀ cou
         counters-long = w .counters-long;
       }
 
-      pub part-through : r ≡ 0 → {path′ : List ℕ} → Kept d path path′ → length area′ ≡ length area → {s : HeaderSet} → s ≡ formOf rest′
+      pub part-through : r ≡ 0 → {path′ : List ℕ} → Kept d path path′ → length area′ ≡ length area
+          → {s : HeaderSet} → s ≡ formOf rest′
           → AtPart f ask index x q b m d path₀ counters₀ area₀ p₀ path′ counters′ area′ (setOf s) later
       part-through z k a e = rw e (record {
         tracing = after-call (at .tracing) w k a;

@@ -47,15 +47,16 @@ pub descended-met : {f ask : List ℕ} (x q b hops : ℕ) (path : List ℕ) (p :
 descended-met {f} x q b hops path p l w = traced-same (ap (λ (o : Ending). eventsAfter f x q o hops path p) (sym (ending-met b l))) w
 
 -- no entry was met: the part is at the place that the index has for the in-port
-module _ {f cells : List ℕ} (a : AFabric f) (i : Index f cells) {x : ℕ} (l : x < 4096) {place : ℕ} (h : place ≡ getD cells x 0) where
+module _ {f cells : List ℕ} (a : AFabric f) (i : Index f cells) {x : ℕ} (l : x < 4096) {place : ℕ}
+    (h : place ≡ getD cells x 0) where
   at-place : place ≡ placeAt f x
   at-place = h ∙ i .places x l
 
   pub place-found : IsPlace f place
   place-found = rw at-place (place-is-one a x)
 
-  pub descended-past : {ask : List ℕ} (q b hops : ℕ) (path : List ℕ) (p : Set) {counters₀ area₀ : List ℕ} {r : ℕ} {counters area : List ℕ}
-      → b ≡ noEntry
+  pub descended-past : {ask : List ℕ} (q b hops : ℕ) (path : List ℕ) (p : Set) {counters₀ area₀ : List ℕ} {r : ℕ}
+      {counters area : List ℕ} → b ≡ noEntry
       → Traced f ask (eventsAt f place p hops path) counters₀ area₀ r counters area
       → Traced f ask (eventsAfter f x q (endingAt b) hops path p) counters₀ area₀ r counters area
   descended-past q b hops path p e w = traced-same

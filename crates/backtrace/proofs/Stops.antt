@@ -124,8 +124,8 @@ left-at-first f place hops path t =
     (let whole : fabricIn f .entries ≡ fabricIn f .entries - 0 = omega arith in whole)
 
 -- the loop begins with the first entry of the chain
-pub first-entry : {f ask index : List ℕ} {d : ℕ} {path counters area : List ℕ} → Tracing f ask index d path counters area → (place : ℕ)
-    (t : Set) (floor e : ℕ)
+pub first-entry : {f ask index : List ℕ} {d : ℕ} {path counters area : List ℕ}
+    → Tracing f ask index d path counters area → (place : ℕ) (t : Set) (floor e : ℕ)
     → place < 4096 → (place ≡ 0 → ⊥) → floor ≡ floorOf ask → floor < d → e ≡ getD index (4096 + place) 0
     → AtEntry f ask index place t d path counters area e path counters area
 first-entry {f} {ask} {index} {d} {path} {counters} {area} x place t floor e l nz h m g = record {
@@ -217,8 +217,8 @@ module _ {f ask index : List ℕ} {place : ℕ} {t : Set} {d : ℕ} {path₀ cou
             ∙ x .left
 
         -- it takes nothing back; it may stand on the path already
-        pub entry-empty : m .some ≡ false → {n : ℕ} → n ≡ getD index (nextOut + e) 0 → {path₁ : List ℕ} → Kept d path path₁
-            → AtEntry f ask index place t d path₀ counters₀ area₀ n path₁ counters₁ area
+        pub entry-empty : m .some ≡ false → {n : ℕ} → n ≡ getD index (nextOut + e) 0 → {path₁ : List ℕ}
+            → Kept d path path₁ → AtEntry f ask index place t d path₀ counters₀ area₀ n path₁ counters₁ area
         unfolding Option·elim
         entry-empty z {n} g k = record {
           tracing = on-kept (after-unit (x .tracing) u) k;
@@ -237,7 +237,8 @@ module _ {f ask index : List ℕ} {place : ℕ} {t : Set} {d : ℕ} {path₀ cou
         module _ (some-back : m .some ≡ true) {path₁ : List ℕ} (pushed : path₁ ≡ set path (d - 1) e) {port : ℕ} (q : ℕ)
             (is-port : port ≡ entryIn y)
             (least : (p : ℕ) → leb q p ≡ outranks p (entryPriority y)) {r : ℕ} {counters₂ area₂ : List ℕ}
-            (w : Traced f ask (eventsFrom f port q 0 hops (drop (d - 1) path₁) (setOf (m .set))) counters₁ area r counters₂ area₂) where
+            (w : Traced f ask
+            (eventsFrom f port q 0 hops (drop (d - 1) path₁) (setOf (m .set))) counters₁ area r counters₂ area₂) where
           path-begins : drop (d - 1) path₁ ≡ e ∷ drop d path₀
           path-begins =
               ap (drop (d - 1)) pushed
@@ -250,7 +251,8 @@ module _ {f ask index : List ℕ} {place : ℕ} {t : Set} {d : ℕ} {path₀ cou
           tried-by : rankedFrom (fabricIn f) port q 0 ≡ beaters (fabricIn f) e
           tried-by =
               ap (λ (y : ℕ). rankedFrom (fabricIn f) y q 0) in-port
-              ∙ sym (beaters-ranked (fabricIn f) e q (λ p. least p ∙ ap (outranks p) (sym (priority-is (x .tracing .asked .fabric) i))))
+              ∙ sym (beaters-ranked (fabricIn f) e q
+              (λ p. least p ∙ ap (outranks p) (sym (priority-is (x .tracing .asked .fabric) i))))
 
           entry-events : eventsFrom f port q 0 hops (drop (d - 1) path₁) (setOf (m .set)) ≡ taken (backFrom y t)
           unfolding eventsFrom Option·elim
@@ -272,8 +274,8 @@ module _ {f ask index : List ℕ} {place : ℕ} {t : Set} {d : ℕ} {path₀ cou
             counters-long = w .counters-long;
           }
 
-          pub entry-through : r ≡ 0 → {n : ℕ} → n ≡ getD index (nextOut + e) 0 → {path₂ : List ℕ} → Kept (d - 1) path₁ path₂
-              → length area₂ ≡ length area
+          pub entry-through : r ≡ 0 → {n : ℕ} → n ≡ getD index (nextOut + e) 0 → {path₂ : List ℕ}
+              → Kept (d - 1) path₁ path₂ → length area₂ ≡ length area
               → AtEntry f ask index place t d path₀ counters₀ area₀ n path₂ counters₂ area₂
           entry-through z {n} g {path₂} k a = record {
             tracing = after-call (after-unit (x .tracing) u) w (kept-under pushed k) a;

@@ -81,7 +81,8 @@ module _ (f : Fabric) (budget : ℕ) (found : Find → World → Played) (next :
         ∙ ap (λ (bs : List ℕ). play budget found (cutBy b bs) (with-units w (w .made + 1))) (sym is-later)
         ∙ sym (played-first true e)
 
-    goes-passed : ltb (w .made) budget ≡ true → meets f p b ≡ false → Goes later (with-units w (w .made + 1)) → Goes (b ∷ later) w
+    goes-passed : ltb (w .made) budget ≡ true → meets f p b ≡ false → Goes later (with-units w (w .made + 1))
+        → Goes (b ∷ later) w
     goes-passed e m rest =
         ap after (trial-passed (meets f p) budget b later (w .made) e m)
         ∙ rest
@@ -106,7 +107,8 @@ module _ (f : Fabric) (budget : ℕ) (found : Find → World → Played) (next :
   goes-from (suc k) j h w = go (ranked j) (goes-from k (suc j) (omega arith) w)
       (goes-from k (suc j) (omega arith) (with-units w (w .made + 1)))
     where
-      go : (r : Bool) → Goes (those ranked (positions k (suc j))) w → Goes (those ranked (positions k (suc j))) (with-units w (w .made + 1))
+      go : (r : Bool) → Goes (those ranked (positions k (suc j))) w
+          → Goes (those ranked (positions k (suc j))) (with-units w (w .made + 1))
           → Goes (keepIf r j (those ranked (positions k (suc j)))) w
       go false skip pass = skip
       go true skip pass =
@@ -118,8 +120,8 @@ module _ (f : Fabric) (budget : ℕ) (found : Find → World → Played) (next :
 
 -- ---- in the trace: entry i of the chain is the first from j on at in-port x, and the part's trials from there ended at r
 
-module _ {f ask index : List ℕ} {d : ℕ} {path counters₀ area : List ℕ} (t : Tracing f ask index d path counters₀ area) (x q : ℕ) (p : Set)
-    {j i : ℕ} (along : Next (inPortOf (fabricIn f)) (fabricIn f .entries) x j i) {counters : List ℕ} {r : ℕ}
+module _ {f ask index : List ℕ} {d : ℕ} {path counters₀ area : List ℕ} (t : Tracing f ask index d path counters₀ area)
+    (x q : ℕ) (p : Set) {j i : ℕ} (along : Next (inPortOf (fabricIn f)) (fabricIn f .entries) x j i) {counters : List ℕ} {r : ℕ}
     (n : NextMet (trialsFrom (fabricIn f) (budgetOf ask) q i p (getD counters₀ 0 0)) counters₀ r counters) where
   few : fabricIn f .entries ≤ noEntry
   few = entries-few (t .asked .fabric)

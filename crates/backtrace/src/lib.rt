@@ -158,7 +158,9 @@ fn descend(
     requires { ⌜ Tracing (now file) (now ask) (now index) d (now path) (now counters) (now area) ⌝ }
     requires { ⌜ port < 4096 ⌝ }
     requires { ⌜ Ended (now file) (now ask) port (setOf p) (now counters) b ⌝ }
-    ensures { λ r. ⌜ Traced (now (file .entry)) (now (ask .entry)) (eventsAfter (now (file .entry)) port least (endingAt b) (d - floorOf (now (ask .entry))) (drop d (now (path .entry))) (setOf p)) (now (counters .entry)) (now (area .entry)) r (now (counters .exit)) (now (area .exit)) ⌝ }
+    ensures { λ r. ⌜ Traced (now (file .entry)) (now (ask .entry))
+        (eventsAfter (now (file .entry)) port least (endingAt b) (d - floorOf (now (ask .entry))) (drop d (now (path .entry))) (setOf p))
+        (now (counters .entry)) (now (area .entry)) r (now (counters .exit)) (now (area .exit)) ⌝ }
     ensures { λ _. ⌜ Kept d (now (path .entry)) (now (path .exit)) ⌝ }
 {
     if b < NO_ENTRY {
@@ -188,7 +190,9 @@ fn carve(
     requires { ⌜ Tracing (now file) (now ask) (now index) d (now path) (now counters) (now area) ⌝ }
     requires { ⌜ port < 4096 ⌝ }
     requires { ⌜ Met (fabricIn (now file)) port (setOf p) b ⌝ }
-    ensures { λ r. ⌜ Traced (now (file .entry)) (now (ask .entry)) (eventsCut (now (file .entry)) port least b (d - floorOf (now (ask .entry))) (drop d (now (path .entry))) (setOf p)) (now (counters .entry)) (now (area .entry)) r (now (counters .exit)) (now (area .exit)) ⌝ }
+    ensures { λ r. ⌜ Traced (now (file .entry)) (now (ask .entry))
+        (eventsCut (now (file .entry)) port least b (d - floorOf (now (ask .entry))) (drop d (now (path .entry))) (setOf p))
+        (now (counters .entry)) (now (area .entry)) r (now (counters .exit)) (now (area .exit)) ⌝ }
     ensures { λ _. ⌜ Kept d (now (path .entry)) (now (path .exit)) ⌝ }
 {
     let base = events::asked(ask, BASE);

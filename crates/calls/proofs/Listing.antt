@@ -193,7 +193,8 @@ module _ (f : List ℕ) (q : Query) (short : q .limit ≤ 16) (small : q .budget
       )
 
   module _
-      (area : List ℕ) (p : Passed) (after : List ℕ) (e : playedThen p after ≡ passOf f 2 (q .port) (q .limit) (q .budget) (q .asked) area)
+      (area : List ℕ) (p : Passed) (after : List ℕ)
+      (e : playedThen p after ≡ passOf f 2 (q .port) (q .limit) (q .budget) (q .asked) area)
     where
       -- a pass within the budget counts all words, and writes them if there is room for all
       pub all-listed : withinBudget f q ≡ true → ListedAll (begin area) es (playedThen p after)
@@ -261,7 +262,8 @@ module _ (f : List ℕ) (q : Query) (area : List ℕ) where
           (sym (then-asked true false within (lt-leb (4 * length ws) (length area) (omega arith))))
           (λ y. let n : ⊥ = omega arith in n)
 
-      pub words-answered : words ≤ length area / 4 → {last : List ℕ} → last ≡ writtenAt 0 ws area → outcome (words * 256) last ≡ answer
+      pub words-answered : words ≤ length area / 4 → {last : List ℕ} → last ≡ writtenAt 0 ws area
+          → outcome (words * 256) last ≡ answer
       words-answered fits written =
           yes-answered number (words * 256) ws area _ (then-asked true true within (le-leb (4 * length ws) (length area) (omega arith)))
           (ap (λ (n : ℕ). n * 256) are) written

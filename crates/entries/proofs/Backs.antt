@@ -32,7 +32,8 @@ module _ (x : List ℕ) (t : Set) {u : MaybeSet} (undo : u ≡ maybeOf (undone h
         → m ≡ maybeOf (backFrom x t)
     back-moved h =
         h
-        ∙ then-set (undone headerWords (entryAction x .rewrite) t) (metBefore headerWords (entryMatch x) (entryAction x .transfer)) u undo e
+        ∙ then-set (undone headerWords (entryAction x .rewrite) t)
+        (metBefore headerWords (entryMatch x) (entryAction x .transfer)) u undo e
         ∙ ap maybeOf (sym (before-steps headerWords (entryMatch x) (entryAction x) t))
 
     pub back-kept : {k : Bool} → k ≡ keeps (entryAction x .transfer) → k ≡ true

@@ -70,7 +70,8 @@ pub fn met(x: &[u8], s: HeaderSet) -> MaybeSet
 // The headers in entry x's match that its transfer takes into s.
 pub fn met_before(x: &[u8], s: HeaderSet) -> MaybeSet
     requires { ⌜ length (now x) ≡ 4 * entryWords ⌝ }
-    ensures { λ r. ⌜ r ≡ maybeOf (metBefore headerWords (entryMatch (now (x .entry))) (entryAction (now (x .entry)) .transfer) (setOf s)) ⌝ }
+    ensures { λ r. ⌜ r ≡ maybeOf
+        (metBefore headerWords (entryMatch (now (x .entry))) (entryAction (now (x .entry)) .transfer) (setOf s)) ⌝ }
 {
     records::action(x).met_before(s, records::match_set(x))
 }

@@ -27,13 +27,15 @@ oneMore w = record { made = w .made + 1; words = w .words; area = w .area }
 pub record ListedAll (w : World) (es : List Event) (p : Played) : Type 0 where
   pub through : p .status ≡ 0
   pub counted : p .world .words ≡ w .words + wordsOf es
-  pub written : 4 * (w .words + wordsOf es) ≤ length (w .area) → p .world .area ≡ writtenAt (w .words) (listWords (finds es)) (w .area)
+  pub written : 4 * (w .words + wordsOf es) ≤ length (w .area)
+      → p .world .area ≡ writtenAt (w .words) (listWords (finds es)) (w .area)
 
 module _ (budget : ℕ) where
   -- from any world in which the budget has their units, and the words stay below the limit of the count
   abbrev pub Listed : List Event → Type 0
   Listed es =
-      (w : World) → endsWithin budget (w .made) es ≡ true → w .words + wordsOf es < tooMany → ListedAll w es (play budget listed es w)
+      (w : World) → endsWithin budget (w .made) es ≡ true → w .words + wordsOf es < tooMany
+      → ListedAll w es (play budget listed es w)
 
   pub listed-all : (es : List Event) → Listed es
   unfolding endsWithin play step makeUnit listed finds listWords

@@ -158,7 +158,8 @@ fn put_fitting(
 )
     requires { ⌜ HasEdge (now file) k ⌝ }
     requires { ⌜ Path (now path) d ⌝ }
-    ensures { λ _. ⌜ now (area .exit) ≡ fittedAt at (findWords (findAt (now (file .entry)) k (now (path .entry)) d (setOf p))) (now (area .entry)) ⌝ }
+    ensures { λ _. ⌜ now (area .exit)
+        ≡ fittedAt at (findWords (findAt (now (file .entry)) k (now (path .entry)) d (setOf p))) (now (area .entry)) ⌝ }
 {
     let words = words_of(d);
     let room = (area.len() / 4) as u64;
@@ -184,7 +185,9 @@ fn list_find(
     requires { ⌜ HasEdge (now file) k ⌝ }
     requires { ⌜ Path (now path) d ⌝ }
     requires { ⌜ length (now counters) ≡ 2 ⌝ }
-    ensures { λ _. ⌜ playedOf 0 (now (counters .exit)) (now (area .exit)) ≡ listed (findAt (now (file .entry)) k (now (path .entry)) d (setOf p)) (worldOf (now (counters .entry)) (now (area .entry))) ⌝ }
+    ensures { λ _. ⌜ playedOf 0 (now (counters .exit)) (now (area .exit))
+        ≡ listed (findAt (now (file .entry)) k (now (path .entry)) d (setOf p))
+        (worldOf (now (counters .entry)) (now (area .entry))) ⌝ }
     ensures { λ _. ⌜ length (now (counters .exit)) ≡ 2 ⌝ }
 {
     put_fitting(file, area, counters[1], k, p, d, path);

@@ -194,7 +194,8 @@ module _ (n : ℕ) (b : Set) (cb : Words n (b .care)) (vb : Words n (b .value)) 
   like-cares p m = overwritten-fits n m (b .care) (p .care) cb
 
   -- with the bits of a mask as in b, those outside the mask that were free are free still, and no others
-  pub free-later : (p : Set) → Words n (p .care) → (m : List ℕ) → Words n m → free n (taking n m b p) b ≡ outside n m (free n p b)
+  pub free-later : (p : Set) → Words n (p .care) → (m : List ℕ) → Words n m
+      → free n (taking n m b p) b ≡ outside n m (free n p b)
   free-later p cp m wm = words-ext n _ _ (free-fits n (taking n m b p) b cb) (outside-fits n m (free n p b) (free-fits n p b cb)) λ i l.
       free-bit n (taking n m b p) b (like-cares p m) i l
       ∙ ap (λ (x : Bool). bitAt (b .care) i && not x) (overwritten-bit n m (b .care) (p .care) wm i l)

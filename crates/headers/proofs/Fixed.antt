@@ -12,8 +12,8 @@ use Rattle.headers.specs.Sets.{Header, Set, overwritten, contains, WellF
 use Rattle.headers.specs.Carving.{free, fixed, opposite, taking}
 use Rattle.headers.proofs.Booleans.{_⇒_, _==_, both-ways, same-true, implied, implies, always}
 use Rattle.headers.proofs.BitLaws.{bit-or}
-use Rattle.headers.proofs.Positions.{at, every-at, every-of, every-same, every-and, words-fit, words-ext, bit-of-words, complement-at}
-use Rattle.headers.proofs.Positions.{single-fits, single-bit}
+use Rattle.headers.proofs.Positions.{at, every-at, every-of, every-same, every-and, words-fit, words-ext}
+use Rattle.headers.proofs.Positions.{bit-of-words, complement-at, single-fits, single-bit}
 use Rattle.headers.proofs.Members.{contains-bits, value-inside, well-formed}
 use Rattle.headers.proofs.Members.{outside-bit, outside-fits, overwritten-bit, overwritten-fits}
 

@@ -103,7 +103,8 @@ lowest-value n s w = words-ext n (lowest n s) (s .value) (lowest-fits n s (w .ca
 
 -- ---- what masks make
 
-pub outside-bit : (n : ℕ) (m l : List ℕ) → Words n m → (i : ℕ) → i < n * 32 → bitAt (outside n m l) i ≡ (bitAt l i && not (bitAt m i))
+pub outside-bit : (n : ℕ) (m l : List ℕ) → Words n m → (i : ℕ) → i < n * 32
+    → bitAt (outside n m l) i ≡ (bitAt l i && not (bitAt m i))
 unfolding bitAt
 outside-bit n m l f i k =
     bit-of-words n _ i k ∙ bit-and _ _ _

@@ -181,8 +181,8 @@ unfolding firstBit firstSet
 first-bit-none n l w e = ap (λ (k : List ℕ). single n (firstOf (n * 32) k)) (no-bit-none n l w e) ∙ single-past n
 
 -- else it is the highest bit of the first word that is not 0
-pub first-bit-in : (n : ℕ) (l : List ℕ) (w : ℕ) → w < n → ((v : ℕ) → v < w → word l v ≡ 0) → 0 < word l w → word l w < 2 ^ 32
-    → firstBit n l ≡ words n (λ v. cond (eqb v w) (2 ^ (31 - leadingZeros 32 (word l w))) 0)
+pub first-bit-in : (n : ℕ) (l : List ℕ) (w : ℕ) → w < n → ((v : ℕ) → v < w → word l v ≡ 0) → 0 < word l w
+    → word l w < 2 ^ 32 → firstBit n l ≡ words n (λ v. cond (eqb v w) (2 ^ (31 - leadingZeros 32 (word l w))) 0)
 unfolding firstBit single
 first-bit-in n l w inside zeros p h =
     let t = top-bit (word l w) p h in

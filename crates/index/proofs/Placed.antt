@@ -42,7 +42,8 @@ placed-cleared x cells l p = record {
 
 -- ---- the place of one port is another
 
-module _ (g h : ℕ → ℕ) (i v : ℕ) (l : i < 4096) (here : h i ≡ v) (elsewhere : (x : ℕ) → (x ≡ i → ⊥) → h x ≡ g x) where
+module _ (g h : ℕ → ℕ) (i v : ℕ) (l : i < 4096) (here : h i ≡ v)
+    (elsewhere : (x : ℕ) → (x ≡ i → ⊥) → h x ≡ g x) where
   placed-at : (cells : List ℕ) → Placed g 4096 cells → Placed h 4096 (set cells i v)
   placed-at cells p = record {
     long = length-set cells i v ∙ p .long;
@@ -85,7 +86,8 @@ module _ (f : List ℕ) (s : Shape) (ok : Accepted f s) where
           let h = number-has (portOfEdge f) (s .edges) (toOfLink f (s .edges) l) i d in
           absurd (no-edge-at-to f s ok i l (h .0) m (h .1))
 
-  pub link-placed : (l from to : ℕ) (cells : List ℕ) → l < s .links → from ≡ fromOfLink f (s .edges) l → to ≡ toOfLink f (s .edges) l
+  pub link-placed : (l from to : ℕ) (cells : List ℕ) → l < s .links → from ≡ fromOfLink f (s .edges) l
+      → to ≡ toOfLink f (s .edges) l
       → Placed (placeAfter f (s .edges) l) 4096 cells → Placed (placeAfter f (s .edges) (l + 1)) 4096 (set cells to from)
   unfolding placeAfter
   link-placed l from to cells m is at p =

@@ -26,11 +26,13 @@ module _ (meets : ℕ → Bool) (budget : ℕ) where
     unfolding tried
     trial-refused u = ap byUnit u
 
-    pub trial-met : ltb made budget ≡ true → meets b ≡ true → tried meets budget (b ∷ bs) made ≡ record { ending = met b; made = made + 1 }
+    pub trial-met : ltb made budget ≡ true → meets b ≡ true
+        → tried meets budget (b ∷ bs) made ≡ record { ending = met b; made = made + 1 }
     unfolding tried
     trial-met u e = ap byUnit u ∙ ap byMeeting e
 
-    pub trial-passed : ltb made budget ≡ true → meets b ≡ false → tried meets budget (b ∷ bs) made ≡ tried meets budget bs (made + 1)
+    pub trial-passed : ltb made budget ≡ true → meets b ≡ false
+        → tried meets budget (b ∷ bs) made ≡ tried meets budget bs (made + 1)
     unfolding tried
     trial-passed u e = ap byUnit u ∙ ap byMeeting e
 
@@ -63,7 +65,8 @@ module _ (meets : ℕ → Bool) (budget : ℕ) where
           let n = trials-met b bs made e in
           trial-met b bs made (lt-ltb made budget (omega arith)) e
           ∙ ap (λ (t : Bool). after (head? (keepIf t b (those meets bs))) (made + 1)) (sym e)
-          ∙ ap (after (head? (keepIf (meets b) b (those meets bs)))) (let z : made + 1 ≡ made + trialsOf meets (b ∷ bs) = omega arith in z)
+          ∙ ap (after (head? (keepIf (meets b) b (those meets bs))))
+          (let z : made + 1 ≡ made + trialsOf meets (b ∷ bs) = omega arith in z)
       go false e ih =
           let n = trials-passed b bs made e in
           trial-passed b bs made (lt-ltb made budget (omega arith)) e
@@ -99,14 +102,16 @@ module _ (meets : ℕ → Bool) (budget : ℕ) where
   tried-within [] made l = l
   tried-within (b ∷ bs) made l = go (ltb made budget) refl (meets b) (tried-within bs (made + 1))
     where
-      go : (u : Bool) → ltb made budget ≡ u → (t : Bool) → (made + 1 ≤ budget → tried meets budget bs (made + 1) .made ≤ budget)
+      go : (u : Bool) → ltb made budget ≡ u → (t : Bool)
+          → (made + 1 ≤ budget → tried meets budget bs (made + 1) .made ≤ budget)
           → cond u (byMeeting b bs made t) (record { ending = used; made = made }) .made ≤ budget
       go false e t ih = l
       go true e true ih = let k = ltb-true made budget e in omega arith
       go true e false ih = let k = ltb-true made budget e in ih (omega arith)
 
   -- and where it is used, all of it is
-  pub tried-used : (bs : List ℕ) (made : ℕ) → tried meets budget bs made .ending ≡ used → budget ≤ tried meets budget bs made .made
+  pub tried-used : (bs : List ℕ) (made : ℕ) → tried meets budget bs made .ending ≡ used
+      → budget ≤ tried meets budget bs made .made
   unfolding tried
   tried-used [] made e = let z : _≡_ {A = ℕ} 0 1 = cc in absurd (omega arith)
   tried-used (b ∷ bs) made e = go (ltb made budget) refl (meets b) (tried-used bs (made + 1)) e

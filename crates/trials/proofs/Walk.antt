@@ -35,8 +35,8 @@ pub unit-counted : {ask counters₀ counters : List ℕ} {made : Bool} → UnitM
 unfolding makeUnit
 unit-counted {ask} {counters₀} {counters} {made} u = go (ltb (getD counters₀ 0 0) (budgetOf ask)) made refl (u .played [])
   where
-    go : (t m : Bool) → ltb (getD counters₀ 0 0) (budgetOf ask) ≡ t → playedOf (statusOf m) counters [] ≡ unitMade t (worldOf counters₀ [])
-        → Counted (budgetOf ask) counters₀ m counters
+    go : (t m : Bool) → ltb (getD counters₀ 0 0) (budgetOf ask) ≡ t
+        → playedOf (statusOf m) counters [] ≡ unitMade t (worldOf counters₀ []) → Counted (budgetOf ask) counters₀ m counters
     go true true e h = record {
       asked = e;
       units = ap (λ (p : Played). p .world .made) h;
@@ -110,8 +110,8 @@ module _ {f : Fabric} {budget q j : ℕ} {p : Set} {counters₀ : List ℕ} {b :
       here : now (b ∷ later) counters ≡ at-first
       here = ap (λ (bs : List ℕ). now bs counters) (sym (ranked-here f q b is-entry h)) ∙ x .left
 
-      ended : {t : Tried} → now (b ∷ later) counters ≡ t → {r : ℕ} → r ≡ numberOf (t .ending) → getD counters₁ 0 0 ≡ t .made
-          → NextMet at-first counters₀ r counters₁
+      ended : {t : Tried} → now (b ∷ later) counters ≡ t → {r : ℕ} → r ≡ numberOf (t .ending)
+          → getD counters₁ 0 0 ≡ t .made → NextMet at-first counters₀ r counters₁
       ended e n u = record {
         ending-is = n ∙ ap (λ (t : Tried). numberOf (t .ending)) (sym e ∙ here);
         units-are = u ∙ ap (λ (t : Tried). t .made) (sym e ∙ here);

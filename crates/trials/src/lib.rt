@@ -30,7 +30,9 @@ pub fn next_met(
     requires { ⌜ Index (now file) (now index) ⌝ }
     requires { ⌜ OfChain (fabricIn (now file) .entries) j ⌝ }
     requires { ⌜ length (now counters) ≡ 2 ⌝ }
-    ensures { λ r. ⌜ NextMet (trialsFrom (fabricIn (now (file .entry))) (budgetOf (now (ask .entry))) least j (setOf p) (getD (now (counters .entry)) 0 0)) (now (counters .entry)) r (now (counters .exit)) ⌝ }
+    ensures { λ r. ⌜ NextMet
+        (trialsFrom (fabricIn (now (file .entry))) (budgetOf (now (ask .entry))) least j (setOf p) (getD (now (counters .entry)) 0 0))
+        (now (counters .entry)) r (now (counters .exit)) ⌝ }
 {
     let mut b = j;
     while b < NO_ENTRY {

@@ -78,7 +78,8 @@ module _ (p : tie.After-pass) where
     within : withinBudget (f s) (q s) ≡ true
     unfolding f q
     within =
-        through-within (f s) (q s) (yeses before-pass .1 .1) (low-budget before-pass) own₀ (p .pass .result) own (p .pass .ensures) through
+        through-within (f s) (q s) (yeses before-pass .1 .1) (low-budget before-pass) own₀ (p .pass .result) own
+        (p .pass .ensures) through
 
     few : length ws < 2 ^ 45
     few = few-words (f s) (q s) (yeses before-pass .1 .1) (low-budget before-pass) within

@@ -70,7 +70,8 @@ unfolding asked
 returns-2 c =
     let s = c .before .before .before .before .before .before .before .before .before .before .before .before .before .before .before in
     c .before .before .answer-accepted .ensures
-    ∙ ap (λ (r : Read). answerOf (s .args .call) (now (s .args .file)) (asked s) r (now (s .args .area))) (sym (is-accepted (c .before .before .before .before .before .before .before)))
+    ∙ ap (λ (r : Read). answerOf (s .args .call) (now (s .args .file)) (asked s) r (now (s .args .area)))
+    (sym (is-accepted (c .before .before .before .before .before .before .before)))
     ∙ call-answers (s .args .call) (now (s .args .file)) (asked s) (now (s .args .area))
 
 pub answer-spec : {M : Type 1} → statement M

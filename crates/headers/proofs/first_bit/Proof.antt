@@ -55,7 +55,8 @@ returns-2 c =
     let x : List ℕ = c .before .before .before .args .t1 in
     let h : Fits w32 (word x 1) = search needs in
     let zeros : ZerosTo x 1 = more x 0 (none x) (search needs) in
-    ap (λ (t : ℕ). 0 ∷ t ∷ 0 ∷ 0 ∷ []) (c .top2 .ensures) ∙ sym (first-bit-in 4 x 1 (omega arith) zeros (omega arith) (h .fits))
+    ap (λ (t : ℕ). 0 ∷ t ∷ 0 ∷ 0 ∷ []) (c .top2 .ensures)
+    ∙ sym (first-bit-in 4 x 1 (omega arith) zeros (omega arith) (h .fits))
 
 array-read-if3 : tie.Need-array-read-if3
 array-read-if3 c = search needs
@@ -71,7 +72,8 @@ returns-3 c =
     let x : List ℕ = c .before .before .before .before .args .t1 in
     let h : Fits w32 (word x 2) = search needs in
     let zeros : ZerosTo x 2 = more x 1 (more x 0 (none x) (search needs)) (search needs) in
-    ap (λ (t : ℕ). 0 ∷ 0 ∷ t ∷ 0 ∷ []) (c .top3 .ensures) ∙ sym (first-bit-in 4 x 2 (omega arith) zeros (omega arith) (h .fits))
+    ap (λ (t : ℕ). 0 ∷ 0 ∷ t ∷ 0 ∷ []) (c .top3 .ensures)
+    ∙ sym (first-bit-in 4 x 2 (omega arith) zeros (omega arith) (h .fits))
 
 array-read-if4 : tie.Need-array-read-if4
 array-read-if4 c = search needs
@@ -87,7 +89,8 @@ returns-4 c =
     let x : List ℕ = c .before .before .before .before .before .args .t1 in
     let h : Fits w32 (word x 3) = search needs in
     let zeros : ZerosTo x 3 = more x 2 (more x 1 (more x 0 (none x) (search needs)) (search needs)) (search needs) in
-    ap (λ (t : ℕ). 0 ∷ 0 ∷ 0 ∷ t ∷ []) (c .top4 .ensures) ∙ sym (first-bit-in 4 x 3 (omega arith) zeros (omega arith) (h .fits))
+    ap (λ (t : ℕ). 0 ∷ 0 ∷ 0 ∷ t ∷ []) (c .top4 .ensures)
+    ∙ sym (first-bit-in 4 x 3 (omega arith) zeros (omega arith) (h .fits))
 
 returns-5 : tie.Need-returns-5
 returns-5 c =

@@ -31,11 +31,12 @@ abbrev μ-loop : tie.MeasureT-loop
 
 -- what is read, as the fabric has it
 module _ {f : List ℕ} (a : AFabric f) where
-  rank-is : {cells : List ℕ} → Index f cells → {b r : ℕ} → b < fabricIn f .entries → r ≡ getD cells (ranks + b) 0 → r ≡ priorityOf
-      (fabricIn f) b
+  rank-is : {cells : List ℕ} → Index f cells → {b r : ℕ} → b < fabricIn f .entries → r ≡ getD cells (ranks + b) 0
+      → r ≡ priorityOf (fabricIn f) b
   rank-is i l h = h ∙ i .priorities _ l
 
-  meets-is : (p : Set) (b : ℕ) {m : Set} {o : Bool} → o ≡ overlaps 4 p m → m ≡ fabricIn f .entry b .matches → meets (fabricIn f) p b ≡ o
+  meets-is : (p : Set) (b : ℕ) {m : Set} {o : Bool} → o ≡ overlaps 4 p m → m ≡ fabricIn f .entry b .matches
+      → meets (fabricIn f) p b ≡ o
   meets-is p b h e = sym (h ∙ ap₂ (λ (n : ℕ) (m : Set). overlaps n p m) (sym (four-words f)) e)
 
 loop-holds : tie.Need-loop-holds Inv-loop μ-loop

@@ -14,7 +14,8 @@ use Rattle.entries.proofs.Backs.{back-empty, back-moved, back-kept}
 use Rattle.backtrace.proofs.Paths.{kept-same, kept-on}
 use Rattle.backtrace.proofs.Tracings.{entries-from, after-unit, after-push}
 use Rattle.backtrace.proofs.Trying.{part-ended, after-trials, part-traced}
-use Rattle.backtrace.proofs.Stops.{at-edge, no-link, no-hop, AtEntry, first-entry, entries-end, kept-under, later-entry, entry-refused, entry-empty, entry-ended, entry-through}
+use Rattle.backtrace.proofs.Stops.{at-edge, no-link, no-hop, AtEntry, first-entry, entries-end, kept-under, later-entry}
+use Rattle.backtrace.proofs.Stops.{entry-refused, entry-empty, entry-ended, entry-through}
 use Rattle.backtrace.proofs.+carve+descend+stop.Proof.Measures.{stop-at}
 use Rattle.backtrace.proofs.+carve+descend+stop.Proof.Claims.{stop-claims}
 use Rattle.backtrace.proofs.stop.Reads as stop
@@ -29,8 +30,8 @@ abbrev pub stop-μ-loop : stop-lts.MeasureT-loop
 stop-μ-loop file ask index area₀ place t d path₀ counters₀ base e₀ area path counters e = 512 - e
 
 module _ (t : ℕ) where
-  abbrev Met : (stop-lts.Claims → In 6 stop-kinds.ps → Out 6 stop-kinds.ps stop-kinds.r → stop-lts.InvT-loop → stop-lts.MeasureT-loop
-      → Type 0) → Type 0
+  abbrev Met : (stop-lts.Claims → In 6 stop-kinds.ps → Out 6 stop-kinds.ps stop-kinds.r → stop-lts.InvT-loop
+      → stop-lts.MeasureT-loop → Type 0) → Type 0
   Met need = need (stop-claims t) (stop-at t) stop.Post stop-Inv-loop stop-μ-loop
 
   pub found-requires : Met stop-lts.Need-found-requires
@@ -157,7 +158,12 @@ module _ (t : ℕ) where
   push-requires c κs =
       let undone = c .before .before .before .before .before .before .before in
       let l = loop-of undone in
-      omega (arith, l .loop .inv .tracing .on-path .within, l .loop .inv .hop-left, undone .before .before .before .before .before .before .loop-test .taken)
+      omega (
+        arith,
+        l .loop .inv .tracing .on-path .within,
+        l .loop .inv .hop-left,
+        undone .before .before .before .before .before .before .loop-test .taken,
+      )
 
   pub keeps-requires : Met stop-lts.Need-keeps-requires
   keeps-requires c κs =
