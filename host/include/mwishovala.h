@@ -26,6 +26,10 @@
  * every choice. 'Reached' and each find show one choice, so a packet run of the
  * same header may stop with fate 4, which says that there is a choice to make.
  *
+ * Table miss: bit 27 of a file's first word chooses OpenFlow 1.3 over 1.0, and
+ * the version, which is 1, is the eleven bits below. A packet that no entry takes
+ * is lost under 1.0 and dropped under 1.3. Verdicts are the same under both.
+ *
  * Addresses: before it rewrites, an entry may copy nw_src over nw_dst or swap the
  * two. Bits 31..28 of its second word say which, 1 or 2; with 0 it does neither,
  * and a value above 2 gets number 3.
@@ -50,9 +54,12 @@ extern "C" {
 /* The least stack of a thread that makes calls. */
 #define FABRIC_STACK_BYTES (512 * 1024)
 
-/* Which library this is: "mwishovala 0.3.0, commit 0123456789ab", with -dirty
+/* Which library this is: "mwishovala 0.4.0, commit 0123456789ab", with -dirty
  * behind a commit that isn't all, or unknown in its place. */
 extern const char mwishovala_version[];
+
+/* A list's target in the place of an edge port: what is lost. */
+#define FABRIC_LOST 0
 
 /* The number of the question that got a no, or 0, and the place. */
 #define FABRIC_NUMBER(code) ((unsigned)((code) % 256))
@@ -69,7 +76,12 @@ uint64_t fabric_verdict(const uint8_t *file, size_t file_len,
 /* Every find in order: a word of kind 6 (bits 27..12 hops, 11..0 edge port); for
  * each entry in travelling order a word of kind 7 with its number below; care
  * (4); value (4). Kinds are in bits 31..28. A header may stand in several finds,
- * by different ways; each way of it stands in just one. */
+ * by different ways; each way of it stands in just one.
+ * Target FABRIC_LOST, of a file of OpenFlow 1.0: the finds hold the packets that
+ * are lost under some choice, with a header then in the asked set. They come,
+ * after no hop or more and fewer than the limit, to an in-port where no entry
+ * takes them. A find without a hop has no word of kind 7. Under OpenFlow 1.3, and
+ * for a verdict, this target gets number 8. */
 uint64_t fabric_list(const uint8_t *file, size_t file_len,
                      uint8_t *area, size_t area_len,
                      uint32_t target, uint32_t limit, uint32_t budget,
@@ -79,7 +91,9 @@ uint64_t fabric_list(const uint8_t *file, size_t file_len,
 /* One packet's way. 24 words: fate (0 left, 1 dropped, 2 lost, 3 still
  * travelling, 4 tied); 0; port; hops; header then (4); entries taken (16). Tied:
  * two or more entries of the highest priority at the port match, also if they do
- * the same; that hop isn't made. The budget is unused. */
+ * the same; that hop isn't made. No entry takes it at the port: 2 or, under
+ * OpenFlow 1.3, 1; no hop is made for it, while an entry that drops makes one, and
+ * is the last. The budget is unused. */
 uint64_t fabric_run(const uint8_t *file, size_t file_len,
                     uint8_t *area, size_t area_len,
                     uint32_t start, uint32_t limit, uint32_t budget,

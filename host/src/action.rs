@@ -110,6 +110,16 @@ impl<const N: usize> Entry<N> {
         self.rewrite.rewritten(&Header(self.transfer.of(header.0)))
     }
 
+    /// The smallest set that has all that it makes of this one's headers. It has
+    /// more if addresses are copied: then bits of both are always the same.
+    pub(crate) fn action_on_all(&self, set: &HeaderSet<N>) -> HeaderSet<N> {
+        let (care, value) = (self.transfer.of(set.care), self.transfer.of(set.value));
+        HeaderSet {
+            care: std::array::from_fn(|word| care[word] | self.rewrite.care[word]),
+            value: self.rewrite.rewritten(&Header(value)).0,
+        }
+    }
+
     /// The headers that it turns into ones of this set, if there are some: first
     /// the rewrite is undone, then the transfer. Its match isn't looked at.
     pub(crate) fn action_undone(&self, set: &HeaderSet<N>) -> Option<HeaderSet<N>> {

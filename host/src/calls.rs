@@ -43,7 +43,8 @@ fn accepted(asked: Result<usize, Refusal>) -> Result<(), Refusal> {
 }
 
 /// One packet's way from an edge port. Where two or more entries of the highest
-/// priority match, it stops with [`Fate::Tied`](crate::Fate::Tied).
+/// priority match, it stops with [`Fate::Tied`](crate::Fate::Tied). Where no entry
+/// takes it, it is lost or, under OpenFlow 1.3, dropped.
 ///
 /// ```
 /// use mwishovala::{run, text, Fate, Header};

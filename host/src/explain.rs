@@ -8,10 +8,11 @@ use crate::limits::{
     LEAST_FILE_BYTES, MOST_AT_IN_PORT, MOST_EDGES, MOST_ENTRIES, MOST_FILE_BYTES, MOST_HOPS,
     MOST_LINKS, MOST_PORT,
 };
-use crate::query::Query;
+use crate::openflow::OpenFlow;
+use crate::query::{Query, Target};
 use crate::record::{
-    record_words, transfer_number, Edge, Entry, Link, Record, EDGE, END, ENTRY, LINK, START,
-    VERSION,
+    record_words, transfer_number, version_of, Edge, Entry, Link, Record, EDGE, END, ENTRY, LINK,
+    START, VERSION,
 };
 use crate::refusal::Question;
 use crate::words::Words;
@@ -53,7 +54,7 @@ fn length(bytes: usize) -> String {
 
 fn start(words: Words) -> Option<String> {
     let first = words.get(0)?;
-    let (version, counted) = (first >> 16 & 0xfff, first & 0xffff);
+    let (version, counted) = (version_of(first), first & 0xffff);
     Some(if first >> 28 != START {
         format!("word 0 is 0x{first:08x}, which is no start")
     } else if version != VERSION {
@@ -208,6 +209,21 @@ fn limits(passed: &Fabric, here: &Record) -> String {
     }
 }
 
+/// Question 8. Of a fabric of OpenFlow 1.0 a list has a target 0, so what was
+/// asked there is no list.
+fn target(asked: &Asked) -> String {
+    match (asked.query.target(), Words(asked.file).openflow()) {
+        (Target::Port(port), _) => format!("the target, port {port}, is no edge port"),
+        (Target::Lost, OpenFlow::V1_0) => {
+            "target 0 is what is lost, which only a list can be asked about".into()
+        }
+        (Target::Lost, openflow) => format!(
+            "target 0 is what is lost, and under {openflow} nothing is: \
+             what no entry takes is dropped, as its run says"
+        ),
+    }
+}
+
 /// Questions 8 to 13.
 fn of_query(question: Question, asked: &Asked) -> Option<String> {
     let Query {
@@ -215,7 +231,7 @@ fn of_query(question: Question, asked: &Asked) -> Option<String> {
     } = asked.query;
     let lent = asked.lent;
     match question {
-        Question::Target => Some(format!("the target, port {port}, is no edge port")),
+        Question::Target => Some(target(asked)),
         Question::Hops => Some(format!("a hop limit of {hops}: it is 1 to {MOST_HOPS}")),
         Question::Asked => Some(
             stray(&asked.query.asked, "the asked set")

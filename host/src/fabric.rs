@@ -4,6 +4,7 @@
 mod tests;
 
 use crate::calls::accept;
+use crate::openflow::OpenFlow;
 use crate::record::{file_of, Edge, Entry, Link, Record, Unwritable};
 use crate::refusal::Refusal;
 use crate::words::Words;
@@ -20,6 +21,8 @@ use crate::words::Words;
 /// ```
 #[derive(Clone, Debug, Default, PartialEq, Eq)]
 pub struct Fabric<const N: usize = 4> {
+    /// What becomes of a packet that no entry takes.
+    pub openflow: OpenFlow,
     /// Their ports rise.
     pub edges: Vec<Edge<N>>,
     /// Their from-ports rise.
@@ -45,9 +48,12 @@ impl Fabric {
         (fabric.to_bytes().as_deref() == Ok(file)).then_some(fabric)
     }
 
-    /// The records before this place, as they stand.
+    /// What the start says, and the records before this place, as they stand.
     pub(crate) fn before(words: Words, place: usize) -> Fabric {
-        let mut fabric = Fabric::default();
+        let mut fabric = Fabric {
+            openflow: words.openflow(),
+            ..Fabric::default()
+        };
         for (_, record) in words.records().take_while(|(here, _)| *here < place) {
             match record {
                 Record::Edge(edge) => fabric.edges.push(edge),
@@ -65,7 +71,7 @@ impl Fabric {
         let edges = self.edges.iter().copied().map(Record::Edge);
         let links = self.links.iter().copied().map(Record::Link);
         let entries = self.entries.iter().copied().map(Record::Entry);
-        file_of(edges.chain(links).chain(entries))
+        file_of(self.openflow, edges.chain(links).chain(entries))
     }
 }
 

@@ -31,6 +31,18 @@ pub(crate) fn sets() -> impl Iterator<Item = HeaderSet> {
     })
 }
 
+/// This set with all other bits 0: it has as many headers as can be looked at.
+pub(crate) fn without_others(mut set: HeaderSet) -> HeaderSet {
+    let mut others = [u32::MAX; 4];
+    for (word, bit) in BITS {
+        others[word] &= !bit;
+    }
+    for (care, others) in set.care.iter_mut().zip(others) {
+        *care |= others;
+    }
+    set
+}
+
 /// What an entry makes of a header, bit by bit: copied or swapped, and then
 /// rewritten.
 pub(crate) fn by_hand(entry: &Entry, header: &Header) -> Header {

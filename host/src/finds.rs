@@ -8,15 +8,17 @@ use crate::words::Words;
 const FIND: u32 = 6;
 const TAKEN: u32 = 7;
 
-/// Headers that arrive at the target from one edge port by one way. Where
-/// entries of the same priority match, a header may stand in several finds, by
-/// different ways; [`Equals::along`](crate::Equals::along) says where.
+/// Headers that arrive at the target from one edge port by one way or, in a list
+/// of the lost, are lost at its end: [`Fabric::miss`](crate::Fabric::miss) says
+/// where that is. Where entries of the same priority match, a header may stand in
+/// several finds, by different ways; [`Equals::along`](crate::Equals::along) says
+/// where.
 #[derive(Clone, Copy, Debug, PartialEq, Eq)]
 #[non_exhaustive]
 pub struct Find<const N: usize = 4> {
     /// The edge port that they start from.
     pub port: u16,
-    /// How many hops they make.
+    /// How many hops they make: 0 if they are lost where they start.
     pub hops: u32,
     /// The entries that take them by one choice.
     pub entries: Path,

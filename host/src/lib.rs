@@ -16,6 +16,10 @@
 //! What the entry that takes a packet makes of its header is
 //! [`Entry::action_on`]: it may copy or swap addresses, and then it rewrites.
 //!
+//! A packet that no entry takes is lost under [`OpenFlow`] 1.0, and dropped under
+//! 1.3. A list of [`Query::lost`] has every header that is lost, and
+//! [`Fabric::miss`] says where.
+//!
 //! No function here panics, whatever bytes it is given. A thread that makes a
 //! call needs [`limits::STACK_BYTES`] of stack at least.
 
@@ -37,7 +41,9 @@ mod finds;
 pub mod frame;
 mod header;
 pub mod limits;
+mod miss;
 mod names;
+mod openflow;
 mod path;
 mod query;
 #[allow(unsafe_code)]
@@ -61,9 +67,11 @@ pub use fabric::Fabric;
 pub use field::{Field, MOST_FIELD_BITS};
 pub use finds::{Find, Finds};
 pub use header::{Header, HeaderSet};
+pub use miss::Miss;
 pub use names::{NamedPort, Names, Unreadable, MOST_NAME};
+pub use openflow::OpenFlow;
 pub use path::Path;
-pub use query::{Query, QUERY_NUMBERS, USUAL_BUDGET};
+pub use query::{Query, Target, QUERY_NUMBERS, USUAL_BUDGET};
 pub use record::{Edge, Entry, Link, Unwritable};
 pub use refusal::{Place, Question, Refusal};
 pub use run::{Fate, Run};

@@ -6,7 +6,7 @@ use crate::limits::MOST_HOPS;
 /// A query of document 01, but for its first word, which names the call.
 #[derive(Clone, Copy, Debug, PartialEq, Eq)]
 pub struct Query<const N: usize = 4> {
-    /// A verdict's or list's target; a run's start.
+    /// A verdict's target, or a list's, by its [`Target::number`]; a run's start.
     pub port: u32,
     /// The hop limit, 1 to 16.
     pub hops: u32,
@@ -14,6 +14,38 @@ pub struct Query<const N: usize = 4> {
     pub budget: u32,
     /// The exit headers asked about; for a run, its header alone.
     pub asked: HeaderSet<N>,
+}
+
+/// What a list is about.
+#[derive(Clone, Copy, Debug, PartialEq, Eq, Hash)]
+#[non_exhaustive]
+pub enum Target {
+    /// The packets that get out at this port, if it is an edge port.
+    Port(u32),
+    /// The packets that are lost: they come to an in-port where no entry takes
+    /// them. A list alone has this target, of a fabric of OpenFlow 1.0.
+    Lost,
+}
+
+/// What a query has as its port for the packets that are lost.
+const LOST: u32 = 0;
+
+impl Target {
+    /// The target that this is the number of.
+    pub fn numbered(number: u32) -> Target {
+        match number {
+            LOST => Target::Lost,
+            port => Target::Port(port),
+        }
+    }
+
+    /// A query's port.
+    pub fn number(self) -> u32 {
+        match self {
+            Target::Port(port) => port,
+            Target::Lost => LOST,
+        }
+    }
 }
 
 /// A budget that real fabrics stay within, and that a person waits for: half a
@@ -33,6 +65,17 @@ impl<const N: usize> Query<N> {
             budget: USUAL_BUDGET,
             asked: HeaderSet::ALL_WILD,
         }
+    }
+
+    /// Which packets, whatever their headers, are lost after fewer than 16 hops:
+    /// for a list of a fabric of OpenFlow 1.0.
+    pub fn lost() -> Query<N> {
+        Query::all_wild(LOST)
+    }
+
+    /// What a list that asks this is about.
+    pub fn target(&self) -> Target {
+        Target::numbered(self.port)
     }
 
     /// Where a packet with this header goes from this port within 16 hops.

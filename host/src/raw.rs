@@ -98,7 +98,7 @@ macro_rules! calls {
 calls! {
     /// Is the target isolated?
     verdict fabric_verdict (file; query) Answer::Words(VERDICT_WORDS);
-    /// Every find, in order.
+    /// Every find, in order; target 0 is what is lost, under OpenFlow 1.0.
     list fabric_list (file; query) Answer::Finds;
     /// One packet's way; the query's budget is unused.
     run fabric_run (file; query) Answer::Words(RUN_WORDS);

@@ -7,6 +7,7 @@ use std::fmt;
 use crate::action::Transfer;
 use crate::header::HeaderSet;
 use crate::limits::MOST_PORT;
+use crate::openflow::OpenFlow;
 use crate::words::Words;
 
 /// Kinds, in the order in which records stand in a file.
@@ -18,6 +19,11 @@ pub(crate) const END: u32 = 5;
 
 /// The file's version, whose headers have four words.
 pub(crate) const VERSION: u32 = 1;
+
+/// The version in bits 26..16 of a start.
+pub(crate) fn version_of(start: u32) -> u32 {
+    start >> 16 & 0x7ff
+}
 
 /// An edge port, its group, and the headers that the group may send there.
 #[derive(Clone, Copy, Debug, PartialEq, Eq)]
@@ -88,6 +94,11 @@ pub(crate) const fn record_words<const N: usize>(kind: u32) -> usize {
 }
 
 impl<'f> Words<'f> {
+    /// What a file's start says of a packet that no entry takes.
+    pub(crate) fn openflow(&self) -> OpenFlow {
+        self.get(0).map_or(OpenFlow::V1_0, OpenFlow::of_start)
+    }
+
     /// The edge, link or entry that starts here; none if it has a bit set that
     /// these have no place for, or a transfer that there isn't.
     pub(crate) fn record<const N: usize>(&self, place: usize) -> Option<Record<N>> {
@@ -218,14 +229,17 @@ fn port_bits(port: u16) -> Result<u32, Unwritable> {
 }
 
 /// The file of these records, which are in their order.
-pub(crate) fn file_of(records: impl Iterator<Item = Record>) -> Result<Vec<u8>, Unwritable> {
+pub(crate) fn file_of(
+    openflow: OpenFlow,
+    records: impl Iterator<Item = Record>,
+) -> Result<Vec<u8>, Unwritable> {
     let mut words = vec![0];
     for record in records {
         record.write(&mut words)?;
     }
     words.push(END << 28);
     let count = u16::try_from(words.len()).map_err(|_| Unwritable::Words(words.len()))?;
-    words[0] = START << 28 | VERSION << 16 | u32::from(count);
+    words[0] = START << 28 | openflow.bit() | VERSION << 16 | u32::from(count);
     Ok(words.iter().flat_map(|word| word.to_le_bytes()).collect())
 }
 

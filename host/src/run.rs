@@ -10,9 +10,10 @@ use crate::refusal::Refusal;
 pub enum Fate {
     /// It left the fabric at the run's port.
     Left,
-    /// An entry at the run's port dropped it.
+    /// An entry at the run's port dropped it or, under OpenFlow 1.3, no entry there
+    /// took it: [`Fabric::missed`](crate::Fabric::missed) tells them apart.
     Dropped,
-    /// No entry at the run's port took it.
+    /// No entry at the run's port took it, under OpenFlow 1.0.
     Lost,
     /// The limit's hops are made, and a link leads on to the run's port.
     Travelling,

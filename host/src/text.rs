@@ -3,6 +3,7 @@
 //! A line for each edge, link and entry, and `#` before a remark:
 //!
 //! ```text
+//! openflow 1.3
 //! edge 1 group 7 admits nw_src=10.0.0.0/24
 //! edge 2 group 9 admits any
 //! link 10 -> 11
@@ -21,11 +22,17 @@
 //! first. Behind its match an entry may `copy` nw_src over nw_dst or `swap` the
 //! two, and then `set` fields. Edges and links, whose order in a file is fixed,
 //! may stand anywhere.
+//!
+//! `openflow` is 1.0 or 1.3, and 1.0 in a text without it: what becomes of a
+//! packet that no entry takes. It stands at most once, before every edge, link
+//! and entry, so that it is seen, and a text behind another one changes nothing
+//! of it.
 
 mod echo;
 mod line;
 mod lines;
 mod names;
+mod openflow;
 mod pack;
 mod sentence;
 mod sets;

@@ -8,7 +8,7 @@ mod json;
 use std::fs;
 use std::path::Path;
 
-use command::{mwishovala, ran, with_f};
+use command::{mwishovala, ran, with_f, F};
 use json::{parse, Value};
 use mwishovala::{Digest, USUAL_BUDGET};
 
@@ -64,6 +64,81 @@ fn text_says_what_was_asked() {
     check_origin(run.text(), &fabric);
 }
 
+/// What is lost is no port, and a packet that is lost has a hop left.
+#[test]
+fn a_list_of_what_is_lost_says_so() {
+    let folder = with_f("asked-lost");
+    let fabric = format!("f.fabric, sha256 {}", digest(&folder));
+    for (options, hops) in [
+        ("", "fewer than 16"),
+        (" --hops 3 --asked tp_dst=80", "fewer than 3"),
+    ] {
+        let ran = ran(&folder, &format!("list f.fabric lost{options}"));
+        let text = ran.text();
+        assert_eq!(
+            said(text, "target"),
+            Some("what is lost: no entry takes it")
+        );
+        assert_eq!(said(text, "hops"), Some(hops));
+        check_origin(text, &fabric);
+        let answer =
+            parse(self::ran(&folder, &format!("list f.fabric lost{options} --json")).text());
+        let target = answer
+            .as_ref()
+            .and_then(|answer| answer.at(&["asked", "target"]));
+        assert_eq!(target, Some(&Value::Number(0)));
+    }
+}
+
+/// Every answer about a fabric of OpenFlow 1.3 says that it is; JSON says which
+/// each is of.
+#[test]
+fn answers_say_which_openflow() {
+    let folder = with_f("openflows");
+    fs::write(folder.join("newer.txt"), format!("openflow 1.3\n{F}")).unwrap();
+    assert_eq!(ran(&folder, "pack newer.txt newer.fabric").status, 0);
+    fs::write(folder.join("short"), [1, 2, 3]).unwrap();
+    let newer = "1.3: a packet that no entry takes is dropped";
+    for line in [
+        "verdict FILE 1",
+        "verdict FILE 2",
+        "list FILE 2",
+        "run FILE 1 any",
+        "audit FILE",
+        "dot FILE 2",
+    ] {
+        for (file, openflow) in [("f.fabric", None), ("newer.fabric", Some(newer))] {
+            let line = line.replace("FILE", file);
+            let ran = ran(&folder, &line);
+            assert_eq!(said(ran.text(), "openflow"), openflow, "{line}");
+        }
+        if line.starts_with("dot") {
+            continue;
+        }
+        for (file, openflow) in [
+            ("f.fabric", Value::Text("1.0".into())),
+            ("newer.fabric", Value::Text("1.3".into())),
+            ("short", Value::Null),
+        ] {
+            let line = format!("{} --json", line.replace("FILE", file));
+            let answer = parse(ran(&folder, &line).text()).unwrap();
+            assert_eq!(
+                answer.at(&["fabric", "openflow"]),
+                Some(&openflow),
+                "{line}"
+            );
+        }
+    }
+    for (file, says) in [("f.fabric", false), ("newer.fabric", true)] {
+        for command in ["show", "dot"] {
+            let text = ran(&folder, &format!("{command} {file}"))
+                .text()
+                .to_lowercase();
+            assert_eq!(text.contains("openflow 1.3"), says, "{command} {file}");
+        }
+    }
+}
+
 fn check_origin(text: &str, fabric: &str) {
     assert_eq!(said(text, "fabric"), Some(fabric));
     let version = format!("mwishovala {}", env!("CARGO_PKG_VERSION"));
@@ -98,6 +173,7 @@ fn json_says_what_was_asked() {
         "verdict f.fabric 9",
         "list f.fabric 2 --budget 1",
         "audit f.fabric --hops 0",
+        "list f.fabric 0",
         "run f.fabric 1 any",
         "run f.fabric 9 any",
     ] {

@@ -14,9 +14,11 @@ use std::process::Command;
 use command::folder;
 use common::{reference_alone, to_host, Call, LIST, RUN, VERDICT};
 use mwishovala::{limits, raw};
-use reference::examples::{fabric_f, leak_by_choice, run_query, wild_query};
+use reference::examples::{
+    fabric_f, leak_by_choice, lost_after_two_hops, run_query, under_1_3, wild_query,
+};
 use reference::file::write;
-use reference::random::{any, cases, damage, deep_ring, packet, query};
+use reference::random::{any, cases, damage, deep_ring};
 use reference::Query;
 
 /// A program that makes a call, and what is told it before the call's name.
@@ -113,17 +115,18 @@ impl Caller {
         self.check_empty_slices();
         self.check_deepest();
         self.check_equals();
+        self.check_misses();
         cases(first_seed, 20, |rng| {
             let fabric = any(rng);
             let mut file = write(&fabric);
             if rng.once_in(3) {
                 file = damage(&file, rng);
             }
-            let asked = query(rng, &fabric, 2000);
             let lent = rng.one_of([95, 96, 97, 4000]);
-            self.check(VERDICT, &file, lent, &asked);
-            self.check(LIST, &file, lent, &asked);
-            self.check(RUN, &file, lent, &packet(rng, &fabric));
+            for call in [VERDICT, LIST, RUN] {
+                let asked = (call.query)(rng, &fabric, 2000);
+                self.check(call, &file, lent, &asked);
+            }
         });
     }
 
@@ -149,6 +152,19 @@ impl Caller {
         self.check(VERDICT, &file, 96, &wild);
         self.check(LIST, &file, 96, &wild);
         self.check(RUN, &file, 96, &run_query(1, 16, [0, 0, 80, 0]));
+    }
+
+    /// Packets that no entry takes: under OpenFlow 1.0 lost, and listed by target 0,
+    /// under 1.3 dropped.
+    fn check_misses(&self) {
+        let (old, new) = (lost_after_two_hops(), under_1_3(lost_after_two_hops()));
+        let lost = wild_query(0, 16, 99);
+        for fabric in [old, new] {
+            let file = write(&fabric);
+            self.check(LIST, &file, 2000, &lost);
+            self.check(VERDICT, &file, 96, &lost);
+            self.check(RUN, &file, 96, &run_query(1, 16, [0, 0, 80, 0]));
+        }
     }
 
     /// The most stack.

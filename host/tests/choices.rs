@@ -10,7 +10,9 @@ use common::{to_host, transfers, Seen};
 use mwishovala::{list_growing, run, text, verdict, Entry, Fabric, Fate, Find, Header};
 use mwishovala::{Equals, HeaderSet, Tie, Verdict};
 use reference::file::write;
-use reference::random::{any, cases, dead_ends, query, small, small_ring, ties, Rng, Small};
+use reference::random::{
+    any, cases, dead_ends, leaky_ring, list_query, query, small, small_ring, ties, Rng, Small,
+};
 use reference::set::{from_words, to_words};
 
 /// "Any matching entry of the highest priority may take the packet."
@@ -40,10 +42,11 @@ fn takers_along(fabric: &reference::Fabric, header: u128, way: &[u16]) -> Vec<(u
 }
 
 fn small_fabric(rng: &mut Rng) -> Small {
-    match rng.below(4) {
+    match rng.below(5) {
         0 => small(rng),
         1 => small_ring(rng),
-        2 => dead_ends(rng),
+        2 => leaky_ring(rng),
+        3 => dead_ends(rng),
         _ => ties(rng),
     }
 }
@@ -62,13 +65,16 @@ fn holds(set: &HeaderSet, header: u128) -> bool {
     set.contains(&Header(to_words(header)))
 }
 
-/// In a find stands who might take all or some of its packets, and nobody else.
+/// In a find stands who might take all or some of its packets, and nobody else; also
+/// in one of packets that are lost.
 #[test]
 fn equals_of_finds() {
-    let (chosen, alone, moved) = (Cell::new(0), Cell::new(0), Seen::default());
+    let (chosen, alone) = (Cell::new(0), Cell::new(0));
+    let [moved, lost]: [Seen; 2] = Default::default();
     cases(13_000_000, 3000, |rng| {
         let Small { fabric, bits } = small_fabric(rng);
-        let (file, asked) = (write(&fabric), to_host(&query(rng, &fabric, 20_000)));
+        let query = list_query(rng, &fabric, 20_000);
+        let (file, asked) = (write(&fabric), to_host(&query));
         let mut area = Vec::new();
         let Ok(finds) = list_growing(&file, &mut area, 1 << 22, &asked) else {
             return;
@@ -77,6 +83,7 @@ fn equals_of_finds() {
         let equals = Equals::of(&read);
         for find in finds.take(40) {
             moved.add(transfers(&fabric, &find.entries).into());
+            lost.add(query.is_of_the_lost().into());
             let told = equals.along(&find);
             assert_eq!(told, equals_by_the_rule(&fabric, &bits, &find));
             for equals in told {
@@ -88,6 +95,7 @@ fn equals_of_finds() {
     let replayed = std::env::var_os("SEED").is_some();
     assert!(replayed || chosen.get() > 1000 && alone.get() > 1000);
     moved.at_least(1000);
+    lost.at_least(1000);
 }
 
 /// Bits that no entry cares for don't count: where the find is wild they are 0.

@@ -4,6 +4,7 @@
 mod command;
 
 use std::fs;
+use std::path::Path;
 
 use command::{folder, mwishovala, ran, with_f, COMMANDS, F};
 use reference::file::write;
@@ -12,6 +13,7 @@ use reference::random::deep_ring;
 #[test]
 fn the_status_says_it() {
     let folder = with_f("status");
+    with_newer(&folder);
     for (line, status) in [
         ("verdict f.fabric 1", 0),
         ("verdict f.fabric 2", 1),
@@ -26,6 +28,30 @@ fn the_status_says_it() {
         ("list f.fabric 2", 0),
         ("list f.fabric 1", 0),
         ("list f.fabric 9", 2),
+        ("list f.fabric lost", 0),
+        ("list f.fabric 0", 0),
+        (
+            "list f.fabric lost --asked tp_dst=80 --hops 1 --budget 9",
+            0,
+        ),
+        ("list f.fabric lost --hops 17", 2),
+        ("list f.fabric lost --budget 1", 2),
+        ("list newer.fabric lost", 2),
+        ("list newer.fabric 0", 2),
+        ("list newer.fabric 2", 0),
+        ("verdict newer.fabric 1", 0),
+        ("verdict newer.fabric 2", 1),
+        ("verdict newer.fabric 0", 2),
+        ("verdict f.fabric 0", 2),
+        ("verdict f.fabric lost", 2),
+        ("gate newer.fabric 1", 0),
+        ("gate newer.fabric 2", 1),
+        ("audit newer.fabric", 1),
+        ("audit newer.fabric --asked tp_dst=1", 0),
+        ("run newer.fabric 1 any", 0),
+        ("show newer.fabric", 0),
+        ("dot newer.fabric 2", 0),
+        ("dot f.fabric 0", 2),
         ("run f.fabric 1 any", 0),
         ("run f.fabric 5 any", 2),
         ("audit f.fabric", 1),
@@ -44,6 +70,12 @@ fn the_status_says_it() {
     }
 }
 
+/// F under OpenFlow 1.3 as `newer.fabric`.
+fn with_newer(folder: &Path) {
+    fs::write(folder.join("newer.txt"), format!("openflow 1.3\n{F}")).unwrap();
+    assert_eq!(ran(folder, "pack newer.txt newer.fabric").status, 0);
+}
+
 #[test]
 fn bad_use_is_told() {
     let folder = with_f("bad-use");
@@ -56,6 +88,26 @@ fn bad_use_is_told() {
         ("dot f.fabric --hops 3", "a target port is missing"),
         ("verdict f.fabric two", "a target port: 'two' is no number"),
         ("verdict f.fabric +2", "a target port: '+2' is no number"),
+        ("list f.fabric", "a target port or 'lost' is missing"),
+        (
+            "list f.fabric Lost",
+            "a target port or 'lost': 'Lost' is no number",
+        ),
+        ("list f.fabric lost 2", "'2' is one argument too many"),
+        ("list f.fabric lost --jobs 2", "--jobs is no option of list"),
+        (
+            "verdict f.fabric lost",
+            "a target port: only list takes 'lost'",
+        ),
+        (
+            "gate f.fabric lost",
+            "a target port: only list takes 'lost'",
+        ),
+        ("dot f.fabric lost", "a target port: only list takes 'lost'"),
+        (
+            "run f.fabric lost any",
+            "a start port: only list takes 'lost'",
+        ),
         ("verdict f.fabric 2 3", "'3' is one argument too many"),
         ("verdict f.fabric 2 --fast", "there is no option '--fast'"),
         ("verdict f.fabric 2 --hops", "--hops needs a value"),
@@ -95,11 +147,34 @@ fn bad_use_is_told() {
 #[test]
 fn refusals_are_told() {
     let folder = with_f("refusals");
+    with_newer(&folder);
     fs::write(folder.join("short"), [1, 2, 3]).unwrap();
+    fs::write(folder.join("version"), [2, 0, 2, 0x18, 0, 0, 0, 0x50]).unwrap();
     for (line, said) in [
         (
             "verdict f.fabric 3",
             "f.fabric: question 8: the target, port 3, is no edge port",
+        ),
+        (
+            "verdict f.fabric 0",
+            "f.fabric: question 8: target 0 is what is lost, which only a list can be asked about",
+        ),
+        (
+            "gate f.fabric 0",
+            "f.fabric: question 8: target 0 is what is lost, which only a list can be asked about",
+        ),
+        (
+            "list newer.fabric lost",
+            "newer.fabric: question 8: target 0 is what is lost, and under OpenFlow 1.3 nothing is: \
+             what no entry takes is dropped, as its run says",
+        ),
+        (
+            "list newer.fabric 9",
+            "newer.fabric: question 8: the target, port 9, is no edge port",
+        ),
+        (
+            "show version",
+            "version: question 2: the start is of version 2, not 1",
         ),
         (
             "list f.fabric 2 --budget 1",

@@ -25,6 +25,12 @@ fn random_fabrics() {
         assert_eq!(ran(&folder, "pack text again").status, 0);
         assert_eq!(fs::read(folder.join("again")).unwrap(), file);
         let port = rng.pick(&fabric.edges).map_or(1, |edge| edge.port);
+        let lost = ran(&folder, "list fabric lost --budget 5000 --json");
+        assert!(is_json(lost.text()), "{}", lost.text());
+        let is_newer = shown.text().contains("\nopenflow 1.3\n");
+        assert_eq!(is_newer, file[3] == 0x18);
+        let is_refused_as_such = lost.text().contains("\"question\":8,");
+        assert_eq!(is_refused_as_such, is_newer, "{}", lost.text());
         let run = ran(&folder, &format!("run fabric {port} any --json"));
         assert!(is_json(run.text()), "{}", run.text());
         for line in ["verdict fabric", "list fabric", "dot fabric"] {
@@ -54,13 +60,14 @@ fn damaged_files() {
         let file = damage(&write(&fabric), rng);
         fs::write(folder.join("fabric"), &file).unwrap();
         let port = rng.pick(&fabric.edges).map_or(1, |edge| edge.port);
-        let line = match rng.below(7) {
+        let line = match rng.below(8) {
             0 => format!("verdict fabric {port} --budget 1000"),
             1 => format!("list fabric {port} --budget 1000 --json"),
             2 => format!("run fabric {port} nw_dst=10.0.0.1"),
             3 => "audit fabric --budget 100".into(),
             4 => "show fabric".into(),
             5 => "pack fabric packed".into(),
+            6 => "list fabric lost --budget 1000".into(),
             _ => format!("dot fabric {port} --budget 1000"),
         };
         let ran = ran(&folder, &line);
@@ -80,6 +87,8 @@ fn arguments_at_random() {
         "1",
         "any",
         "tp_dst=80",
+        "lost",
+        "0",
         "--json",
         "--hops",
         "--asked",

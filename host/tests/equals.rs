@@ -32,6 +32,7 @@ fn every_limit_budget_and_room() {
                 let asked = wild_query(2, limit, budget);
                 let _ = agreed(VERDICT, &file, 96, &asked);
                 let _ = agreed(LIST, &file, 2000, &asked);
+                let _ = agreed(LIST, &file, 2000, &asked.of_the_lost());
             }
             for lent in 0..200 {
                 let _ = agreed(LIST, &file, lent, &wild_query(2, limit, 40));

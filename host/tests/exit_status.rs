@@ -72,6 +72,14 @@ fn nothing_else_passes_for_isolated() {
         "gate f.fabric 1 1",
         "gate f.fabric 2 --budget 1",
         "gate f.fabric 9",
+        "gate f.fabric 0",
+        "gate f.fabric lost",
+        "gate lost",
+        "verdict f.fabric 0",
+        "verdict f.fabric lost",
+        "verdict f.fabric lost --json",
+        "audit f.fabric lost",
+        "list f.fabric lost lost",
         "gate empty 1",
         "gate f.txt 1",
         "verdict f.fabric 1 --json --json",
@@ -156,10 +164,11 @@ fn two_dashes_end_the_options() {
 }
 
 /// One line for each command that succeeds where its output can be written.
-const WRITTEN: [&str; 12] = [
+const WRITTEN: [&str; 13] = [
     "verdict f.fabric 1",
     "gate f.fabric 1",
     "list f.fabric 2",
+    "list f.fabric lost",
     "run f.fabric 1 any",
     "audit f.fabric --asked tp_dst=1",
     "show f.fabric",

@@ -8,8 +8,8 @@ use std::cell::RefCell;
 use common::fence::{Fenced, Side};
 use common::{reference_alone, Call, LIST, RUN, VERDICT};
 use reference::examples::{fabric_f, run_query, wild_query};
-use reference::file::write;
-use reference::random::{any, cases, damage, largest, packet, query, Rng};
+use reference::file::{start_under, write};
+use reference::random::{any, cases, damage, largest, Rng};
 use reference::Query;
 
 /// Room for the longest file, and one that is too long.
@@ -51,10 +51,7 @@ fn random_and_damaged_files() {
             file.truncate(MOST_FILE);
         }
         for call in calls() {
-            let asked = match call.number {
-                3 => packet(rng, &fabric),
-                _ => query(rng, &fabric, 2000),
-            };
+            let asked = (call.query)(rng, &fabric, 2000);
             let lent = rng.one_of([0, 95, 96, 97, 1000, MOST_AREA]);
             check(call, &mut places.borrow_mut(), &file, lent, &asked);
         }
@@ -75,7 +72,8 @@ fn files_that_stop_anywhere() {
         for _ in 0..20 {
             let words = rng.between(2, whole.len() / 4);
             let mut file = whole[..4 * words].to_vec();
-            file[..4].copy_from_slice(&reference::file::start_word(words).to_le_bytes());
+            let start = start_under(made.openflow, words);
+            file[..4].copy_from_slice(&start.to_le_bytes());
             for call in calls() {
                 let asked = any_query(rng);
                 check(call, &mut places.borrow_mut(), &file, 96, &asked);
@@ -106,6 +104,8 @@ fn areas_of_every_length() {
                 _ => wild_query(2, 16, 9),
             };
             check(call, &mut places.borrow_mut(), &file, lent, &asked);
+            let lost = asked.of_the_lost();
+            check(call, &mut places.borrow_mut(), &file, lent, &lost);
         }
     }
 }

@@ -108,6 +108,8 @@ fn as_the_stories_end() {
         ("harmless-ties", None),
         ("reply-swap", Some("reached: port 2, from port 1, sha256")),
         ("reply-swap.closed", None),
+        ("table-miss", None),
+        ("table-miss.newer", None),
     ] {
         let said = fs::read_to_string(stories.join(format!("{story}.fabric.txt"))).unwrap();
         fs::write(&fabric, pack(&said).unwrap()).unwrap();

@@ -9,7 +9,7 @@ use std::collections::BTreeSet;
 use std::fs;
 use std::path::Path;
 
-use command::{folder, mwishovala, ran, with_f};
+use command::{folder, mwishovala, ran, with_f, F};
 use json::{parse, Value};
 
 fn page() -> String {
@@ -36,7 +36,7 @@ fn examples(page: &str) -> Vec<(Vec<&str>, Value)> {
 }
 
 /// The page's fabrics, in order.
-const FABRICS: [&str; 3] = ["volumes", "tied", "replies"];
+const FABRICS: [&str; 5] = ["volumes", "tied", "replies", "misses", "drops"];
 
 #[test]
 fn the_pages_examples_are_what_is_printed() {
@@ -101,6 +101,8 @@ fn every_failure_is_json() {
     let folder = with_f("json-failures");
     fs::write(folder.join("short"), [1, 2, 3]).unwrap();
     fs::write(folder.join("empty"), [2, 0, 1, 0x10, 0, 0, 0, 0x50]).unwrap();
+    fs::write(folder.join("newer.txt"), format!("openflow 1.3\n{F}")).unwrap();
+    assert_eq!(ran(&folder, "pack newer.txt newer.fabric").status, 0);
     for (line, question) in [
         ("--json", None),
         ("vrdict --json", None),
@@ -116,7 +118,14 @@ fn every_failure_is_json() {
         ("run f.fabric 1 tp_dst=1/3 --json", None),
         ("verdict short 2 --json", Some(1)),
         ("list f.txt 2 --json", Some(2)),
+        ("verdict f.fabric lost --json", None),
+        ("list f.fabric found --json", None),
         ("verdict f.fabric 9 --json", Some(8)),
+        ("verdict f.fabric 0 --json", Some(8)),
+        ("list newer.fabric lost --json", Some(8)),
+        ("list newer.fabric 0 --json", Some(8)),
+        ("list f.fabric lost --hops 0 --json", Some(9)),
+        ("list f.fabric lost --budget 0 --json", Some(13)),
         ("audit f.fabric --hops 17 --json", Some(9)),
         ("run f.fabric 9 any --json", Some(11)),
         ("list f.fabric 2 --json --budget 1", Some(13)),

@@ -10,7 +10,7 @@ use reference::examples::{
 };
 use reference::file::write;
 use reference::random::{
-    any, audited, campus, cases, deep_ring, query, random_denies, random_transit, replies,
+    any, audited, campus, cases, deep_ring, list_query, random_denies, random_transit, replies,
     routed_campus, twenty_denies, Rng,
 };
 use reference::{Entry, Query, Rewrite, Set, Transfer};
@@ -38,12 +38,12 @@ fn check_room(file: &[u8], asked: &Query, bytes: usize) {
 
 #[test]
 fn random_fabrics() {
-    let [listed, far, twice, moved]: [Seen; 4] = Default::default();
+    let [listed, far, twice, moved, lost]: [Seen; 5] = Default::default();
     cases(4_000_000, 8000, |rng| {
         let fabric = any(rng);
         let file = write(&fabric);
         for _ in 0..3 {
-            let asked = query(rng, &fabric, 20_000);
+            let asked = list_query(rng, &fabric, 20_000);
             if let Some(bytes) = needed(&file, &asked, ROOM) {
                 check_room(&file, &asked, bytes);
                 let words = agreed(LIST, &file, bytes, &asked).unwrap();
@@ -53,6 +53,7 @@ fn random_fabrics() {
                 twice.add(has_a_pair_twice(&finds).into());
                 let moves = |find: &Find| transfers(&fabric, &find.entries);
                 moved.add(finds.iter().any(moves).into());
+                lost.add((bytes > 0 && asked.is_of_the_lost()).into());
             } else {
                 let _ = agreed(LIST, &file, rng.below(100), &asked);
             }
@@ -62,6 +63,7 @@ fn random_fabrics() {
     far.at_least(50);
     twice.at_least(200);
     moved.at_least(1000);
+    lost.at_least(1000);
 }
 
 /// Whether two of the first finds have a pair in common, by different ways.
@@ -81,7 +83,7 @@ fn damaged_files() {
 fn budgets_around_the_count() {
     let is_enough = |file: &_, asked: &_| agreed(LIST, file, ROOM / 16, asked) != Err((13, 0));
     let seeds = (4_200_000, 3000);
-    let counted = checks::budgets_around_the_count(seeds, 20_000, least_budget, is_enough);
+    let counted = checks::budgets_around_the_count(LIST, seeds, 20_000, least_budget, is_enough);
     assert!(counted == 1 || counted > 1500);
 }
 
@@ -144,9 +146,7 @@ fn half_a_mebibyte_of_stack_is_enough() {
 
 #[test]
 fn calls_at_the_same_time() {
-    checks::calls_at_the_same_time(LIST, (4_400_000, 400), 4000, |rng, fabric| {
-        query(rng, fabric, 20_000)
-    });
+    checks::calls_at_the_same_time(LIST, (4_400_000, 400), 4000);
 }
 
 /// No find, no word, no room needed.

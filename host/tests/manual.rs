@@ -203,6 +203,55 @@ fn the_help_says_what_entries_do_to_headers() {
     }
 }
 
+/// And what becomes of a packet that no entry takes.
+#[test]
+fn the_help_says_what_no_entry_takes() {
+    for line in ["--help", "help pack", "man"] {
+        let said = printed(line).replace('\n', " ").replace("\\(aq", "'");
+        let rule =
+            "A line 'openflow 1.3' says that a packet which no entry takes is dropped; with \
+                    'openflow 1.0', or without such a line, it is lost. It stands at most once, \
+                    and before every edge, link and entry.";
+        assert!(said.contains(rule), "{line}");
+    }
+    let list = printed("help list").replace('\n', " ");
+    for said in [
+        "'lost' as TARGET, which is target 0 of document 02, asks for the packets that are lost",
+        "Ports are asked about by their numbers, never by their names",
+        "Under OpenFlow 1.3 nothing is lost, and 'lost' is refused",
+    ] {
+        assert!(list.contains(said), "{said}");
+    }
+    assert!(printed("--help").contains("list also\ntakes 'lost' as TARGET."));
+    assert!(printed("help run").contains("A packet that no entry takes is lost or, under OpenFlow"));
+    assert!(printed("help show").contains("'openflow 1.3'"));
+}
+
+/// The word that a list takes, and no other command, is offered.
+#[test]
+fn lost_is_offered_for_a_list() {
+    let folder = with_f("bash-lost");
+    fs::write(folder.join("completions"), printed("completions bash")).unwrap();
+    for command in COMMANDS {
+        let offered = offered(&folder, &["mwishovala", command, "f.fabric", "los"]);
+        let expected = if command == "list" {
+            set(&["lost"])
+        } else {
+            set(&[])
+        };
+        assert_eq!(offered, expected, "{command}");
+    }
+    let fish = printed("completions fish");
+    let offers: Vec<&str> = fish
+        .lines()
+        .filter(|line| line.ends_with("-a 'lost'"))
+        .collect();
+    assert_eq!(
+        offers,
+        ["complete -c mwishovala -n '__fish_seen_subcommand_from list' -a 'lost'"]
+    );
+}
+
 /// No line is too long for a terminal.
 #[test]
 fn lines_are_short() {

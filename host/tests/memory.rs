@@ -53,6 +53,7 @@ fn calls_have_the_stack_that_they_need() {
     for line in [
         "verdict fabric 2",
         "list fabric 2",
+        "list fabric lost",
         "gate fabric 2",
         "audit fabric",
         "dot fabric 2",

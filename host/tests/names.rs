@@ -61,6 +61,17 @@ fn random_names(rng: &mut Rng) -> Names {
     text.parse().unwrap()
 }
 
+/// Words that a text or the command has a meaning for are names like any other.
+#[test]
+fn names_that_are_words() {
+    let text = format!("openflow 1.3\n{EDGES}name 1 lost\nname 2 openflow\nswitch drop 1 2\n");
+    let packed = pack_named(&text).unwrap();
+    assert_eq!(packed.names.port(1).to_string(), "1 (lost on drop)");
+    assert_eq!(packed.names.port(2).to_string(), "2 (openflow on drop)");
+    let shown = show_named(&Fabric::read(&packed.file).unwrap(), &packed.names);
+    assert_eq!(pack_named(&shown), Ok(packed));
+}
+
 #[test]
 fn wrong_names() {
     let sixty_five = format!("name 1 {}", "a".repeat(65));
@@ -105,13 +116,18 @@ fn wrong_names() {
         assert_eq!(text.parse::<Names>().unwrap_err().to_string(), message);
         assert_eq!(pack_named(text).unwrap_err().to_string(), message);
     }
-    assert_eq!(
-        "edge 1 group 1 admits any"
-            .parse::<Names>()
-            .unwrap_err()
-            .to_string(),
-        "1:1: 'edge': a line is a name or a switch"
-    );
+    for (text, message) in [
+        (
+            "edge 1 group 1 admits any",
+            "1:1: 'edge': a line is a name or a switch",
+        ),
+        (
+            "name 1 a\nopenflow 1.3",
+            "2:1: 'openflow': a line is a name or a switch",
+        ),
+    ] {
+        assert_eq!(text.parse::<Names>().unwrap_err().to_string(), message);
+    }
 }
 
 /// Read where they are, never needed, and refused where they are damaged.

@@ -128,3 +128,31 @@ fn links_and_permissions_stay() {
     assert_ne!(fs::read(&file).unwrap(), old);
     assert_eq!(file.metadata().unwrap().permissions().mode() & 0o777, 0o640);
 }
+
+/// One bit of the file, and so its digest, says which OpenFlow the text chooses.
+#[test]
+fn an_openflow_is_packed_and_shown() {
+    let folder = with_f("openflow");
+    let old = fs::read(folder.join("f.fabric")).unwrap();
+    for (number, line) in ["openflow 1.0", "openflow 1.3"].iter().enumerate() {
+        fs::write(folder.join("text"), format!("{line}\n{F}")).unwrap();
+        assert_eq!(ran(&folder, "pack text packed").status, 0);
+        let packed = fs::read(folder.join("packed")).unwrap();
+        assert_eq!(usize::from(packed[3] ^ old[3]), number << 3, "{line}");
+        assert_eq!((&packed[..3], &packed[4..]), (&old[..3], &old[4..]));
+        let shown = ran(&folder, "show packed");
+        assert_eq!(shown.text().contains(line), number == 1);
+        fs::write(folder.join("shown"), &shown.out).unwrap();
+        assert_eq!(ran(&folder, "pack shown again").status, 0);
+        assert_eq!(fs::read(folder.join("again")).unwrap(), packed);
+    }
+    fs::write(folder.join("text"), format!("{F}openflow 1.3\n")).unwrap();
+    let wrong = ran(&folder, "pack text packed");
+    assert_eq!(
+        (&wrong.err[..], wrong.status),
+        (
+            "mwishovala: text:5:1: openflow stands before every edge, link and entry\n",
+            2
+        )
+    );
+}

@@ -3,49 +3,44 @@
 
 mod common;
 
-use std::ops::ControlFlow;
-
 use common::{agreed, fresh, product_alone, Call, Seen, LIST, VERDICT};
+use reference::calls::count;
 use reference::examples::{edge, entry, fabric, wild_query};
 use reference::file::write;
-use reference::index::Index;
 use reference::random::{
     cases, crowded, dead_ends, every_beater_meets, no_beater_meets, small, small_query, small_ring,
     ties, Rng, Small,
 };
-use reference::trace::{trace, Ended};
-use reference::{Entry, Fabric, Query, Set};
+use reference::{Entry, Fabric, OpenFlow, Query, Set};
 
 /// Room for most lists of these tests.
 const ROOM: usize = 4000;
 
 /// Verdict and list with each budget up to one more than the list's count, if that
-/// is at most this much; gives the count.
+/// is at most this much; gives the count. Of the lost there is no verdict, and
+/// under OpenFlow 1.3 no list.
 fn every_budget(fabric: &Fabric, asked: &Query, most: u32) -> Option<u32> {
     let file = write(fabric);
-    let count = count(fabric, asked, most)?;
+    let lost = asked.is_of_the_lost();
+    if lost && fabric.openflow == OpenFlow::V1_3 {
+        assert_eq!(agreed(LIST, &file, ROOM, asked), Err((8, 0)));
+        return None;
+    }
+    let within = Query {
+        budget: most,
+        ..*asked
+    };
+    let count = count(fabric, &within)?;
     for budget in 0..=count + 1 {
         let asked = Query { budget, ..*asked };
         let listed = agreed(LIST, &file, ROOM, &asked);
         assert_eq!(listed == Err((13, 0)), budget < count, "{asked:x?}");
         match agreed(VERDICT, &file, 96, &asked) {
-            Ok(words) => assert!(words[1] <= budget),
-            no => assert_eq!(no, Err((13, 0))),
+            Ok(words) => assert!(words[1] <= budget && !lost),
+            no => assert_eq!(no, Err((if lost { 8 } else { 13 }, 0))),
         }
     }
     Some(count)
-}
-
-/// The units of the whole trace, if they are at most this many.
-fn count(fabric: &Fabric, asked: &Query, most: u32) -> Option<u32> {
-    let index = Index::new(fabric);
-    let (target, limit, set) = (asked.port as u16, asked.limit as usize, asked.asked());
-    match trace(&index, target, limit, set, most, |_| {
-        ControlFlow::Continue(())
-    }) {
-        Ended::Whole(units) => Some(units),
-        _ => None,
-    }
 }
 
 type Make = fn(&mut Rng) -> Small;

@@ -8,7 +8,7 @@ use reference::examples::{
 };
 use reference::file::write;
 use reference::query::{input, print, RUN, VERDICT};
-use reference::random::{any, cases, damage, packet, query};
+use reference::random::{any, cases, damage, list_query, packet};
 
 /// The calls that the program knows are those from here to the run.
 const FIRST_CALL: u32 = VERDICT;
@@ -21,7 +21,7 @@ fn random_inputs() {
         let call = rng.between(FIRST_CALL as usize, RUN as usize) as u32;
         let asked = match call {
             RUN => packet(rng, &fabric),
-            _ => query(rng, &fabric, 10_000),
+            _ => list_query(rng, &fabric, 10_000),
         };
         let mut file = write(&fabric);
         if rng.once_in(3) {

@@ -7,12 +7,13 @@ use std::cell::Cell;
 use common::{agreed, checks, transfers, Seen, RUN};
 use reference::brute;
 use reference::examples::{fabric_f, run_query};
-use reference::file::{read, to_le_bytes, write};
+use reference::file::{read, start_under, to_le_bytes, write};
 use reference::random::{
     any, cases, damage, inflict, largest, packet, small_ring, ties, Damage, Rng,
 };
 use reference::set::to_words;
-use reference::ways::{Packet, TIED};
+use reference::ways::{Packet, DROPPED, TIED};
+use reference::{Fabric, OpenFlow};
 
 /// What F sends on to port 2.
 const HEADER: [u32; 4] = [0, 0x0a00_0002, 2, 0];
@@ -27,10 +28,10 @@ fn some_length(rng: &mut Rng) -> usize {
 }
 
 /// All five fates come up, by ways with copies and swaps too, and are also what
-/// naive forwarding gives.
+/// naive forwarding gives. Under OpenFlow 1.3 some are dropped by no entry.
 #[test]
 fn random_fabrics() {
-    let (fates, moved): ([Cell<u32>; 5], [Seen; 5]) = Default::default();
+    let (fates, moved, missed): ([Cell<u32>; 5], [Seen; 5], Seen) = Default::default();
     cases(1_000_000, 15_000, |rng| {
         let fabric = any(rng);
         let file = write(&fabric);
@@ -42,6 +43,7 @@ fn random_fabrics() {
                 let fate = &fates[words[0] as usize];
                 fate.set(fate.get() + 1);
                 moved[words[0] as usize].add(transfers(&fabric, &naive.entries).into());
+                missed.add(is_missed(&fabric, &words).into());
             }
         }
     });
@@ -50,6 +52,14 @@ fn random_fabrics() {
     for moved in moved {
         moved.at_least(300);
     }
+    missed.at_least(1000);
+}
+
+/// Whether a run's packet is dropped and no entry did it.
+fn is_missed(fabric: &Fabric, words: &[u32]) -> bool {
+    let taken = &words[8..][..words[3] as usize];
+    let drops = |&last: &u32| fabric.entries[last as usize].out_port == 0;
+    words[0] == DROPPED && !taken.last().is_some_and(drops)
 }
 
 /// Every header over a few bits, from every edge port.
@@ -118,7 +128,7 @@ fn files_of_random_words() {
             words.push(if rng.once_in(3) { 0 } else { kind | low });
         }
         words.push(0x5000_0000);
-        words[0] = reference::file::start_word(words.len());
+        words[0] = start_under(rng.one_of(OpenFlow::ALL), words.len());
         let query = run_query(rng.below(8) as u32, 16, [0; 4]);
         let _ = agreed(RUN, &to_le_bytes(&words), 96, &query);
     });
@@ -161,6 +171,8 @@ fn questions_9_to_12_in_turn() {
 #[test]
 fn numbers_out_of_range() {
     checks::numbers_out_of_range(RUN, run_query(1, 16, HEADER), 11);
+    let from_0 = agreed(RUN, &fabric_f(), 96, &run_query(0, 16, HEADER));
+    assert_eq!(from_0, Err((11, 0)));
 }
 
 #[test]
@@ -191,5 +203,5 @@ fn checked_examples() {
 
 #[test]
 fn calls_at_the_same_time() {
-    checks::calls_at_the_same_time(RUN, (1_500_000, 500), 96, packet);
+    checks::calls_at_the_same_time(RUN, (1_500_000, 500), 96);
 }

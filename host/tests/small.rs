@@ -7,7 +7,7 @@ mod common;
 use common::{product_alone, Call, LIST, RUN, VERDICT};
 use reference::brute::{Checked, Fact};
 use reference::calls::{read_answer, Answer};
-use reference::random::{crowded, dead_ends, small, small_ring, ties, tiny};
+use reference::random::{crowded, dead_ends, leaky_ring, small, small_ring, ties, tiny};
 use reference::Query;
 
 const CHECKED: Checked = Checked {
@@ -23,7 +23,8 @@ fn product(call: Call, file: &[u8], lent: usize, query: &Query) -> Answer {
 
 #[test]
 fn tiny_fabrics() {
-    CHECKED.on_many(5_000_000, 6000, tiny);
+    let tally = CHECKED.on_many(5_000_000, 6000, tiny);
+    tally.has(300, &[Fact::LostRefused, Fact::LostAtOnce]);
 }
 
 #[test]
@@ -31,6 +32,7 @@ fn small_fabrics() {
     let tally = CHECKED.on_many(5_100_000, 6000, small);
     tally.has(10, &Fact::OF_TIES);
     tally.has(30, &Fact::OF_TRANSFERS);
+    tally.has(30, &Fact::OF_MISSES);
 }
 
 #[test]
@@ -38,6 +40,7 @@ fn fabrics_of_ties() {
     let tally = CHECKED.on_many(5_200_000, 8000, ties);
     tally.has(60, &Fact::OF_TIES);
     tally.has(80, &Fact::OF_TRANSFERS);
+    tally.has(60, &Fact::OF_MISSES);
 }
 
 #[test]
@@ -45,6 +48,7 @@ fn fabrics_with_dead_ends() {
     let tally = CHECKED.on_many(5_300_000, 5000, dead_ends);
     tally.has(10, &Fact::OF_TIES);
     tally.has(30, &Fact::OF_TRANSFERS);
+    tally.has(30, &Fact::OF_MISSES);
 }
 
 #[test]
@@ -56,8 +60,16 @@ fn small_rings() {
 }
 
 #[test]
+fn leaky_rings() {
+    let tally = CHECKED.on_many(5_600_000, 5000, leaky_ring);
+    tally.has(60, &Fact::OF_MISSES);
+    tally.has(500, &[Fact::LostFar]);
+}
+
+#[test]
 fn crowded_in_ports() {
     let tally = CHECKED.on_many(5_500_000, 2000, crowded);
     tally.has(10, &Fact::OF_TIES);
     tally.has(30, &Fact::OF_TRANSFERS);
+    tally.has(10, &Fact::OF_MISSES);
 }

@@ -60,6 +60,11 @@ fn a_reply_goes_to_a_forged_source() {
 }
 
 #[test]
+fn no_entry_of_the_second_switch_takes_it() {
+    tell("table-miss");
+}
+
+#[test]
 fn beaters_attribute_by_attribute() {
     tell("trap-attributes");
 }
@@ -97,7 +102,7 @@ fn ports_have_a_protocol() {
             with_ports += u32::from(on_ports);
         }
     }
-    assert_eq!(with_ports, 14);
+    assert_eq!(with_ports, 16);
 }
 
 /// No story is left out above.
@@ -110,5 +115,5 @@ fn all_are_told() {
         path.extension()
             .is_some_and(|extension| extension == "session")
     });
-    assert_eq!(sessions.count(), 10);
+    assert_eq!(sessions.count(), 11);
 }

@@ -2,17 +2,102 @@
 //! wrong is said with its line and column.
 
 use mwishovala::text::{pack, show, Wrong};
-use mwishovala::{accept, Fabric, HeaderSet};
+use mwishovala::{accept, Fabric, HeaderSet, OpenFlow};
 use reference::file::write;
 use reference::random::{any, cases, Rng};
 
+/// Of each OpenFlow, which is shown if it isn't 1.0.
 #[test]
 fn packing_what_is_shown_gives_the_same_bytes() {
     cases(8_000_000, 4000, |rng| {
         let file = write(&any(rng));
-        let shown = show(&Fabric::read(&file).unwrap());
-        assert!(pack(&shown).as_deref() == Ok(&file[..]), "{shown}");
+        for file in [&file, &of_the_other_openflow(&file)] {
+            let fabric = Fabric::read(file).unwrap();
+            let shown = show(&fabric);
+            assert!(pack(&shown).as_deref() == Ok(&file[..]), "{shown}");
+            let is_shown = shown.lines().any(|line| line == "openflow 1.3");
+            assert_eq!(is_shown, fabric.openflow == OpenFlow::V1_3);
+            assert_eq!(shown.contains("openflow"), is_shown);
+        }
     });
+}
+
+/// The same file but for the bit of its start that chooses.
+fn of_the_other_openflow(file: &[u8]) -> Vec<u8> {
+    let mut other = file.to_vec();
+    other[3] ^= 1 << 3;
+    other
+}
+
+/// Without the line, and with it, wherever names stand.
+#[test]
+fn an_openflow_is_chosen() {
+    let edge = "edge 1 group 7 admits any\n";
+    let file = pack(edge).unwrap();
+    assert_eq!(file[3], 0x10);
+    for (head, openflow) in [
+        ("", OpenFlow::V1_0),
+        ("openflow 1.0\n", OpenFlow::V1_0),
+        ("openflow 1.3\n", OpenFlow::V1_3),
+        (
+            "# a remark\n\n \topenflow   1.3 # another\n",
+            OpenFlow::V1_3,
+        ),
+        ("name 1 a\nopenflow 1.3\nswitch b 1\n", OpenFlow::V1_3),
+    ] {
+        let packed = pack(&format!("{head}{edge}")).unwrap();
+        assert_eq!(Fabric::read(&packed).unwrap().openflow, openflow, "{head}");
+        let expected = match openflow {
+            OpenFlow::V1_0 => file.clone(),
+            _ => of_the_other_openflow(&file),
+        };
+        assert_eq!(packed, expected);
+    }
+    assert_eq!(pack("openflow 1.3"), Ok(vec![2, 0, 1, 0x18, 0, 0, 0, 0x50]));
+}
+
+/// Anything else of it is wrong, and said at its place.
+#[test]
+fn wrong_openflows() {
+    let edge = "edge 1 group 7 admits any";
+    for (text, message) in [
+        ("openflow", "1:9: 1.0 or 1.3 is missing"),
+        ("\nopenflow 1.4", "2:10: '1.4' instead of 1.0 or 1.3"),
+        ("openflow 1", "1:10: '1' instead of 1.0 or 1.3"),
+        ("openflow 1.30", "1:10: '1.30' instead of 1.0 or 1.3"),
+        ("openflow 0x1.3", "1:10: '0x1.3' instead of 1.0 or 1.3"),
+        ("openflow 1.3 1.0", "1:14: '1.0' is too much"),
+        (
+            "openflow 1.3\n\nopenflow 1.3",
+            "3:1: openflow stands here twice",
+        ),
+        (
+            "openflow 1.0\nopenflow 1.3",
+            "2:1: openflow stands here twice",
+        ),
+        (
+            &format!("openflow 1.3\n{edge}\nopenflow 1.3"),
+            "3:1: openflow stands here twice",
+        ),
+        (
+            &format!("{edge}\n  openflow 1.3"),
+            "2:3: openflow stands before every edge, link and entry",
+        ),
+        (
+            "link 5 -> 6\nopenflow 1.0",
+            "2:1: openflow stands before every edge, link and entry",
+        ),
+        (
+            "entry 5 -> 6 priority 1 match any\nopenflow 1.0",
+            "2:1: openflow stands before every edge, link and entry",
+        ),
+        (
+            "OpenFlow 1.3",
+            "1:1: 'OpenFlow': a line is openflow, an edge, a link, an entry, a name or a switch",
+        ),
+    ] {
+        assert_eq!(pack(text).unwrap_err().to_string(), message, "{text}");
+    }
 }
 
 #[test]
@@ -126,7 +211,7 @@ fn wrong_lines() {
     let wrong = [
         (
             "port 1",
-            "1:1: 'port': a line is an edge, a link, an entry, a name or a switch",
+            "1:1: 'port': a line is openflow, an edge, a link, an entry, a name or a switch",
         ),
         ("\n  edge", "2:7: a port is missing"),
         ("edge 1 grup 2 admits any", "1:8: 'grup' instead of 'group'"),
@@ -291,10 +376,11 @@ fn damaged_texts() {
         ' ', '\n', '#', '-', '>', '=', ',', '/', '.', 'x', 'é', '\u{0}', '0', '9', '1', 'e',
     ];
     cases(8_200_000, 3000, |rng| {
-        let fabric = reference::random::small(rng).fabric;
-        let mut text: Vec<char> = show(&Fabric::read(&write(&fabric)).unwrap())
-            .chars()
-            .collect();
+        let mut file = write(&reference::random::small(rng).fabric);
+        if rng.once_in(2) {
+            file = of_the_other_openflow(&file);
+        }
+        let mut text: Vec<char> = show(&Fabric::read(&file).unwrap()).chars().collect();
         for _ in 0..rng.between(1, 4) {
             let place = rng.below(text.len());
             match rng.below(3) {
@@ -314,7 +400,10 @@ fn damaged_texts() {
 /// Texts of words that stand in fabrics, and of others, in any order.
 #[test]
 fn texts_at_random() {
-    const WORDS: [&str; 29] = [
+    const WORDS: [&str; 32] = [
+        "openflow",
+        "1.0",
+        "1.3",
         "name",
         "switch",
         "leaf-1",

@@ -6,7 +6,7 @@ mod common;
 use common::{to_host, transfers, Seen};
 use mwishovala::{list_growing, run, verdict, Fabric, Fate, Find, Header, HeaderSet, Verdict};
 use reference::file::write;
-use reference::random::{any, cases, packet, query, Rng};
+use reference::random::{any, cases, list_query, packet, Rng};
 use reference::set::from_words;
 use reference::ways::Packet;
 use reference::Query;
@@ -35,8 +35,9 @@ impl Listed<'_> {
         }
     }
 
-    /// A find's header arrives by the find's entries, each of which may take it
-    /// in its turn. Its run is the same, or tied on the way. Gives whether it is.
+    /// A find's header arrives, or is lost if those are asked for, by the find's
+    /// entries, each of which may take it in its turn. Its run is the same, or tied
+    /// on the way. Gives whether it is.
     fn arrives(&self, find: &Find, header: &Header) -> bool {
         let entries = numbers(find);
         let way = self.packet(find.port, header).follow(&entries);
@@ -44,15 +45,15 @@ impl Listed<'_> {
         assert!(way.arrives(self.asked));
         assert_eq!(find.hops as usize, entries.len());
         let run = run(self.file, find.port.into(), *header, self.asked.limit).unwrap();
-        match run.fate {
-            Fate::Left => {
-                assert_eq!((run.hops, run.entries), (find.hops, find.entries));
-                assert_eq!((run.port, from_words(run.header.0)), (way.port, way.header));
-            }
-            Fate::Tied => assert!(run.hops < find.hops && find.entries.starts_with(&run.entries)),
-            fate => panic!("{fate:?}, and it arrives"),
+        if run.fate == Fate::Tied {
+            assert!(run.hops < find.hops && find.entries.starts_with(&run.entries));
+            return true;
         }
-        run.fate == Fate::Tied
+        assert_eq!(run.fate == Fate::Lost, self.asked.is_of_the_lost());
+        assert!(matches!(run.fate, Fate::Left | Fate::Lost));
+        assert_eq!((run.hops, run.entries), (find.hops, find.entries));
+        assert_eq!((run.port, from_words(run.header.0)), (way.port, way.header));
+        false
     }
 
     /// The finds that this packet is in.
@@ -103,7 +104,7 @@ fn on_lists(first: u64, check: impl Fn(&Listed, &mut Rng)) {
         let file = write(&made);
         let asked = Query {
             budget: 20_000,
-            ..query(rng, &made, 1)
+            ..list_query(rng, &made, 1)
         };
         let mut area = Vec::new();
         let Ok(finds) = list_growing(&file, &mut area, MOST_AREA, &to_host(&asked)) else {
@@ -121,7 +122,7 @@ fn on_lists(first: u64, check: impl Fn(&Listed, &mut Rng)) {
 
 #[test]
 fn finds_arrive_by_their_own_ways() {
-    let [listed, tied, moved]: [Seen; 3] = Default::default();
+    let [listed, lost, tied, moved]: [Seen; 4] = Default::default();
     on_lists(6_000_000, |list, rng| {
         for find in list.finds.iter().take(MOST_FINDS) {
             for header in [find.set.lowest(), one_of(&find.set, rng)] {
@@ -129,16 +130,19 @@ fn finds_arrive_by_their_own_ways() {
             }
             moved.add(transfers(list.made, &find.entries).into());
         }
-        listed.add(list.finds.len());
+        match list.asked.is_of_the_lost() {
+            true => lost.add(list.finds.len()),
+            false => listed.add(list.finds.len()),
+        }
     });
-    listed.at_least(10_000);
-    tied.at_least(10_000);
-    moved.at_least(10_000);
+    for seen in [listed, lost, tied, moved] {
+        seen.at_least(10_000);
+    }
 }
 
 #[test]
 fn every_way_is_in_one_find() {
-    let (once, twice) = (Seen::default(), Seen::default());
+    let [once, twice, lost]: [Seen; 3] = Default::default();
     on_lists(6_100_000, |list, rng| {
         for _ in 0..10 {
             let asked = packet(rng, list.made);
@@ -150,17 +154,22 @@ fn every_way_is_in_one_find() {
                 let finds = list.is_in_as_many_finds(port, &header);
                 once.add((finds == 1).into());
                 twice.add((finds > 1).into());
+                lost.add((list.asked.is_of_the_lost() && finds > 0).into());
             }
         }
     });
     once.at_least(5000);
     twice.at_least(1000);
+    lost.at_least(1000);
 }
 
 #[test]
 fn the_verdict_is_the_first_foreign_find() {
     let (isolated, reached) = (Seen::default(), Seen::default());
     on_lists(6_200_000, |list, _| {
+        if list.asked.is_of_the_lost() {
+            return;
+        }
         let fabric = Fabric::read(list.file).unwrap();
         let target = list.asked.port as u16;
         let mut finds = list.finds.iter();

@@ -79,7 +79,7 @@ fn budgets_around_the_count() {
     let count = |file: &_, asked: &_| agreed(VERDICT, file, 96, asked).ok().map(|words| words[1]);
     let is_enough = |file: &_, asked: &_| agreed(VERDICT, file, 96, asked).is_ok();
     let seeds = (3_200_000, 8000);
-    let counted = checks::budgets_around_the_count(seeds, 50_000, count, is_enough);
+    let counted = checks::budgets_around_the_count(VERDICT, seeds, 50_000, count, is_enough);
     assert!(counted == 1 || counted > 2000);
 }
 
@@ -106,9 +106,7 @@ fn half_a_mebibyte_of_stack_is_enough() {
 
 #[test]
 fn calls_at_the_same_time() {
-    checks::calls_at_the_same_time(VERDICT, (3_400_000, 400), 96, |rng, fabric| {
-        query(rng, fabric, 20_000)
-    });
+    checks::calls_at_the_same_time(VERDICT, (3_400_000, 400), 96);
 }
 
 #[test]
@@ -124,6 +122,8 @@ fn every_bit_matters_alike() {
 #[test]
 fn numbers_out_of_range() {
     checks::numbers_out_of_range(VERDICT, wild_query(2, 16, 2), 8);
+    let of_0 = agreed(VERDICT, &fabric_f(), 96, &wild_query(0, 16, 2));
+    assert_eq!(of_0, Err((8, 0)));
     checks::values_outside_the_care(VERDICT, wild_query(2, 16, 2));
 }
 

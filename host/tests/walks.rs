@@ -2,10 +2,11 @@
 
 mod common;
 
-use common::to_host;
-use mwishovala::{list_growing, text, Fabric};
+use common::{to_host, Seen};
+use mwishovala::{list_growing, text, Fabric, Query};
 use reference::file::write;
-use reference::random::{any, cases, query, small};
+use reference::random::{any, cases, leaky_ring, query, small};
+use reference::OpenFlow;
 
 /// So many switches in a row, from edge port 1 to edge port 2.
 fn row(switches: u16) -> Fabric {
@@ -81,13 +82,62 @@ fn walks_counted() {
     });
 }
 
+/// A packet that is lost after so many hops was led on for as many; and where none
+/// is, the list of the lost with that limit is whole.
+#[test]
+fn no_packet_is_lost_further_than_said() {
+    let [whole, led_on]: [Seen; 2] = Default::default();
+    cases(12_900_000, 2000, |rng| {
+        let made = reference::Fabric {
+            openflow: OpenFlow::V1_0,
+            ..if rng.once_in(2) {
+                any(rng)
+            } else {
+                leaky_ring(rng).fabric
+            }
+        };
+        let file = write(&made);
+        let lost = |hops| {
+            let asked = Query {
+                hops,
+                budget: 20_000,
+                ..Query::lost()
+            };
+            let mut area = Vec::new();
+            let finds = list_growing(&file, &mut area, 1 << 22, &asked).ok()?;
+            Some(finds.collect::<Vec<_>>())
+        };
+        let Some(most) = lost(16) else {
+            return;
+        };
+        let fabric = Fabric::read(&file).unwrap();
+        for find in &most {
+            assert!(fabric.leads_on(find.hops));
+        }
+        let limit = rng.between(1, 15) as u32;
+        match fabric.leads_on(limit) {
+            true => led_on.add(1),
+            false => {
+                assert_eq!(lost(limit), Some(most));
+                whole.add(1);
+            }
+        }
+    });
+    whole.at_least(200);
+    led_on.at_least(200);
+}
+
 /// Where nothing leads further, the list with more hops has no longer find.
 #[test]
 fn no_find_is_longer_than_said() {
     cases(12_800_000, 1000, |rng| {
         let made = any(rng);
         let file = write(&made);
-        let mut asked = to_host(&query(rng, &made, 20_000));
+        let asked = query(rng, &made, 20_000);
+        if asked.is_of_the_lost() {
+            return;
+        }
+        let mut asked = to_host(&asked);
         asked.hops = 16;
         let mut area = Vec::new();
         let Ok(finds) = list_growing(&file, &mut area, 1 << 22, &asked) else {

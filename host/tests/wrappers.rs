@@ -119,7 +119,9 @@ fn runs_are_read_right() {
 mod trace {
     use super::*;
     use common::{to_host, LIST, VERDICT};
-    use mwishovala::{list, verdict, Refusal, Verdict};
+    use mwishovala::{
+        list, verdict, Find, HeaderSet, OpenFlow, Question, Refusal, Target, Verdict,
+    };
     use reference::random::query;
 
     /// The typed answers say what the words say.
@@ -148,6 +150,143 @@ mod trace {
                 Err(refusal) => check_refusal(&refusal, code),
             }
         });
+    }
+
+    /// This file under that OpenFlow.
+    fn under(openflow: OpenFlow, file: &[u8]) -> Vec<u8> {
+        let fabric = Fabric::read(file).unwrap();
+        Fabric { openflow, ..fabric }.to_bytes().unwrap()
+    }
+
+    /// Of each find of what is lost a packet is followed to where no entry takes it,
+    /// and its run says the same, under either OpenFlow.
+    #[test]
+    fn packets_are_lost_where_the_host_says() {
+        // Lost where they start, behind a link, and by a choice among equals.
+        let times = RefCell::new([0; 3]);
+        cases(7_500_000, 1500, |rng| {
+            let made = any(rng);
+            let file = under(OpenFlow::V1_0, &write(&made));
+            let asked = mwishovala::Query {
+                port: Target::Lost.number(),
+                ..to_host(&query(rng, &made, 5000))
+            };
+            let mut lent = vec![0; 1 << 16];
+            for find in list(&file, &mut lent, &asked).into_iter().flatten() {
+                let is_tied = check_lost(&file, &find, &asked);
+                let kind = usize::from(find.hops > 0) + usize::from(is_tied);
+                times.borrow_mut()[kind.min(2)] += 1;
+            }
+        });
+        let replayed = std::env::var_os("SEED").is_some();
+        assert!(replayed || times.borrow().iter().all(|&times| times > 20));
+    }
+
+    /// Whether its packet's run is tied before.
+    fn check_lost(file: &[u8], find: &Find, asked: &mwishovala::Query) -> bool {
+        let fabric = Fabric::read(file).unwrap();
+        let header = find.set.lowest();
+        let way = fabric.hops(&header, &find.entries).unwrap();
+        assert!(way.iter().all(|hop| hop.takers.contains(&hop.number)));
+        let then = way
+            .last()
+            .map_or(header, |last| last.entry.action_on(&last.header));
+        let miss = fabric.miss(find).unwrap();
+        assert!(miss.set.contains(&then) && asked.asked.contains(&then));
+        assert_eq!(fabric.takers(miss.in_port, &then), []);
+        let newer = under(OpenFlow::V1_3, file);
+        let mut is_tied = false;
+        for (file, fate) in [(file, Fate::Lost), (&newer, Fate::Dropped)] {
+            let fabric = Fabric::read(file).unwrap();
+            let run = run(file, find.port.into(), header, asked.hops).unwrap();
+            is_tied = run.fate == Fate::Tied;
+            assert_eq!(fabric.missed(&run), !is_tied);
+            if !is_tied {
+                assert_eq!((run.fate, run.port), (fate, miss.in_port));
+                assert_eq!((run.header, run.entries), (then, find.entries));
+            }
+        }
+        is_tied
+    }
+
+    /// A run is missed exactly where no entry takes its packet.
+    #[test]
+    fn runs_are_missed_where_no_entry_takes_them() {
+        let times = RefCell::new([[0; 2]; FATES.len()]);
+        cases(7_600_000, 3000, |rng| {
+            let made = any(rng);
+            let asked = packet(rng, &made);
+            for openflow in [OpenFlow::V1_0, OpenFlow::V1_3] {
+                let file = under(openflow, &write(&made));
+                let fabric = Fabric::read(&file).unwrap();
+                let ended = run(&file, asked.port, Header(asked.value), asked.limit);
+                let Ok(ended) = ended else { return };
+                let missed = fabric.missed(&ended);
+                let may_be = match openflow {
+                    OpenFlow::V1_0 => ended.fate == Fate::Lost,
+                    _ => ended.fate == Fate::Dropped,
+                };
+                let last = ended
+                    .entries
+                    .last()
+                    .map(|&entry| &fabric.entries[usize::from(entry)]);
+                let by_an_entry = last.is_some_and(|entry| entry.out_port == 0);
+                assert_eq!(missed, may_be && !by_an_entry);
+                assert!(!missed || fabric.takers(ended.port, &ended.header).is_empty());
+                let fate = FATES.iter().position(|fate| *fate == ended.fate).unwrap();
+                times.borrow_mut()[fate][usize::from(missed)] += 1;
+            }
+        });
+        let times = times.into_inner();
+        let replayed = std::env::var_os("SEED").is_some();
+        assert!(
+            replayed || times[1].iter().all(|&times| times > 20),
+            "{times:?}"
+        );
+        assert!(
+            replayed || (times[2][1] > 20 && times[2][0] == 0),
+            "{times:?}"
+        );
+    }
+
+    /// Target 0 is for a list of OpenFlow 1.0 alone.
+    #[test]
+    fn what_is_lost_is_asked_of_a_list() {
+        let file = pack("edge 1 group 7 admits any").unwrap();
+        let lost = mwishovala::Query::lost();
+        assert_eq!(lost.target(), Target::Lost);
+        assert_eq!(
+            mwishovala::Query::<4>::all_wild(3).target(),
+            Target::Port(3)
+        );
+        let mut area = [0; 36];
+        let finds: Vec<Find> = list(&file, &mut area, &lost).unwrap().collect();
+        assert_eq!((finds.len(), finds[0].port, finds[0].hops), (1, 1, 0));
+        assert_eq!(
+            (&finds[0].entries[..], finds[0].set),
+            (&[][..], HeaderSet::ALL_WILD)
+        );
+        let newer = under(OpenFlow::V1_3, &file);
+        let refused = [
+            (
+                verdict(&file, &lost).unwrap_err(),
+                "target 0 is what is lost, which only a list can be asked about",
+            ),
+            (
+                list(&newer, &mut area, &lost).unwrap_err(),
+                "target 0 is what is lost, and under OpenFlow 1.3 nothing is: \
+                 what no entry takes is dropped, as its run says",
+            ),
+            (
+                list(&file, &mut area, &mwishovala::Query::all_wild(2)).unwrap_err(),
+                "the target, port 2, is no edge port",
+            ),
+        ];
+        for (refusal, reason) in &refused {
+            assert_eq!(refusal.question, Question::Target);
+            assert_eq!(refusal.reason, *reason);
+        }
+        assert_eq!(verdict(&newer, &lost).unwrap_err(), refused[1].0);
     }
 
     fn check_refusal(refusal: &Refusal, code: u64) {

@@ -1,7 +1,7 @@
 //! A fabric is written as it stands, or not at all.
 
 use mwishovala::{accept, verdict, Edge, Entry, Fabric, HeaderSet, Link, Query};
-use mwishovala::{Transfer, Unwritable};
+use mwishovala::{OpenFlow, Transfer, Unwritable};
 use reference::file::write;
 use reference::random::{any, cases};
 
@@ -29,6 +29,7 @@ fn entry(in_port: u16, out_port: u16) -> Entry {
 #[test]
 fn ports_are_not_cut_short() {
     let fabric = Fabric {
+        openflow: OpenFlow::V1_0,
         edges: vec![edge(4097), edge(2)],
         links: vec![],
         entries: vec![entry(4097, 4096), entry(2, 4098)],
@@ -40,6 +41,7 @@ fn ports_are_not_cut_short() {
 #[test]
 fn every_port_is_asked() {
     let whole = Fabric {
+        openflow: OpenFlow::V1_3,
         edges: vec![edge(1), edge(2)],
         links: vec![Link { from: 10, to: 11 }],
         entries: vec![entry(1, 10), entry(11, 2)],
@@ -83,10 +85,36 @@ fn words_are_counted() {
     );
 }
 
+/// A fabric of another OpenFlow is another file, in one bit.
+#[test]
+fn an_openflow_is_a_bit_of_the_start() {
+    let mut fabric = Fabric {
+        edges: vec![edge(1)],
+        ..Fabric::default()
+    };
+    assert_eq!(fabric.openflow, OpenFlow::V1_0);
+    let old = fabric.to_bytes().unwrap();
+    fabric.openflow = OpenFlow::V1_3;
+    let new = fabric.to_bytes().unwrap();
+    assert_eq!(
+        (&old[..4], &new[..4]),
+        (&[11, 0, 1, 0x10][..], &[11, 0, 1, 0x18][..])
+    );
+    assert_eq!(old[4..], new[4..]);
+    for (file, openflow) in [(old, OpenFlow::V1_0), (new, OpenFlow::V1_3)] {
+        assert_eq!(accept(&file), Ok(()));
+        assert_eq!(Fabric::read(&file).unwrap().openflow, openflow);
+    }
+}
+
 #[test]
 fn what_was_read_is_written_as_it_was() {
     cases(12_200_000, 2000, |rng| {
-        let file = write(&any(rng));
-        assert_eq!(Fabric::read(&file).unwrap().to_bytes().unwrap(), file);
+        let mut file = write(&any(rng));
+        for _ in 0..2 {
+            assert_eq!(Fabric::read(&file).unwrap().to_bytes().unwrap(), file);
+            // The same fabric of the other OpenFlow.
+            file[3] ^= 1 << 3;
+        }
     });
 }

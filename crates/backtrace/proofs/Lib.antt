@@ -1,8 +1,8 @@
-mod Steps
+pub mod Steps
 mod Paths
-mod Tracings
+pub mod Tracings
 mod Places
-mod Trying
+pub mod Trying
 mod Carves
 mod Descents
 mod Stops

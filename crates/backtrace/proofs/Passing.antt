@@ -1,4 +1,4 @@
--- One pass of the back-trace: what `stop` needs at the target with the limit, and that what it leaves is the pass. Assumes nothing.
+-- One pass of the back-trace: what `stop` needs at the target with the limit, and that what it leaves is the pass.
 use mathlib.Core.List.{List, [], _∷_}
 use mathlib.Core.Path.{_≡_, ap, _∙_}
 use Prim.Native.Nat.{ℕ, _-_, _≤_, _<_}
@@ -35,7 +35,7 @@ module _
     pub tracing : (index area : List ℕ) → Index f index → group ≡ fabricIn f .group target → base ≡ entriesAt f → (mode ≡ 3 → 96 ≤ length area)
         → Tracing f ask index 16 (replicate 16 0) (replicate 2 0) area
     tracing index area I g b room = record {
-      asked = record { fabric = record { shape = s; is-accepted = ok }; floor-low = omega arith; group-is = g; base-is = b };
+      asked = record { fabric = record { shape = s; is-accepted = ok }; group-is = g; base-is = b };
       indexed = I;
       above-floor = omega arith;
       on-path = record { long = omega arith; within = omega arith; entries = λ k l h. absurd (omega arith) };

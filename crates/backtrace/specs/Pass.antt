@@ -1,4 +1,4 @@
--- What one pass of the back-trace promises. Assumes nothing.
+-- What one pass of the back-trace promises.
 use mathlib.Core.List.{List}
 use Prim.Native.Nat.{ℕ}
 use Rattle.headers.specs.Sets.{Set}

@@ -142,7 +142,7 @@ fn stop(
 
 // A part p at an in-port whose trials ended at b: on to the parts that entry b leaves of it, or back to the stop, if no entry was met; what
 // is met has at least this priority. The path from place d on begins with the entry that p is taken back by.
-fn descend(
+pub fn descend(
     file: &[u8],
     ask: &[u32; 6],
     index: &[u16; CELLS],
@@ -256,7 +256,7 @@ fn group_at(file: &[u8], shape: Shape, edge_of: &[u16; 4096], port: u32) -> u32
 }
 
 // The byte at which the entries begin.
-fn entries_at(file: &[u8], shape: Shape) -> u32
+pub fn entries_at(file: &[u8], shape: Shape) -> u32
     requires { ⌜ Accepted (now file) shape ⌝ }
     ensures { λ r. ⌜ r ≡ entriesAt (now (file .entry)) ⌝ }
 {

@@ -11,8 +11,7 @@ use Rattle.headers.specs.Sets.{Set}
 use Rattle.headers.proofs.Booleans.{and-fst, and-snd}
 use Rattle.answer.specs.Answer.{Outcome, outcome, refused, answered, writtenAt, bytesOf}
 use Rattle.questions.specs.Questions.{pick, Question, firstNo}
-use Rattle.forwarding.specs.Fabric.{Fabric}
-use Rattle.calls.specs.Questions.{limitRight, targetQuestions, orRefused}
+use Rattle.calls.specs.Questions.{limitRight, traceQuestions, orRefused}
 
 abbrev pub Yeses : List Question → Type 0
 Yeses [] = Unit {0}
@@ -37,13 +36,13 @@ pub limit-range : (limit : ℕ) → limitRight limit ≡ true → (1 ≤ limit) 
 limit-range limit e =
     (leb-true 1 limit (and-fst (leb 1 limit) (leb limit 16) e), leb-true limit 16 (and-snd (leb 1 limit) (leb limit 16) e))
 
-module _ (F : Fabric) (target limit : ℕ) (asked : Set) where
-  pub target-numbered : Numbered (targetQuestions F target limit asked)
-  target-numbered = (omega arith, (omega arith, (omega arith, tt)))
+module _ (right : Bool) (limit : ℕ) (asked : Set) where
+  pub trace-numbered : Numbered (traceQuestions right limit asked)
+  trace-numbered = (omega arith, (omega arith, (omega arith, tt)))
 
-  pub target-yeses : firstNo (targetQuestions F target limit asked) ≡ 0 → (F .isEdge target ≡ true) × ((1 ≤ limit) × (limit ≤ 16))
-  target-yeses e =
-      let y = all-yes (targetQuestions F target limit asked) target-numbered e in
+  pub trace-yeses : firstNo (traceQuestions right limit asked) ≡ 0 → (right ≡ true) × ((1 ≤ limit) × (limit ≤ 16))
+  trace-yeses e =
+      let y = all-yes (traceQuestions right limit asked) trace-numbered e in
       (y .0, limit-range limit (y .1 .0))
 
 -- ---- what is answered

@@ -20,9 +20,9 @@ use Rattle.model.specs.Model.{fabricOf, fabricIn}
 use Rattle.events.specs.Play.{Played, reachedWords}
 use Rattle.events.proofs.VerdictPlayed.{VerdictPlayed, verdict-played}
 use Rattle.backtrace.specs.Pass.{begin, passOf}
-use Rattle.calls.specs.Questions.{Query, targetQuestions, roomForAnswer, orRefused}
+use Rattle.calls.specs.Questions.{Query, traceQuestions, roomForAnswer, orRefused}
 use Rattle.calls.specs.Verdict.{verdictWords, verdictAsked}
-use Rattle.calls.proofs.Asking.{target-numbered, no-answered, yes-answered}
+use Rattle.calls.proofs.Asking.{trace-numbered, no-answered, yes-answered}
 use Rattle.calls.proofs.MoreAsked.{first-no-more, first-no-said}
 
 module _ (f : List ℕ) (q : Query) (area : List ℕ) where
@@ -100,7 +100,7 @@ module _ (f : List ℕ) (q : Query) (area : List ℕ) where
 
   -- the questions asked before the back-trace, and the one after it
   abbrev first : List Question
-  first = targetQuestions (fabricIn f) (q .port) (q .limit) (q .asked)
+  first = traceQuestions (fabricIn f .isEdge (q .port)) (q .limit) (q .asked)
 
   abbrev pub before-trace : List Question
   before-trace = first ++ (12 asks roomForAnswer area ∷ [])
@@ -122,7 +122,9 @@ module _ (f : List ℕ) (q : Query) (area : List ℕ) where
     module _ (z : said ≡ 0) where
       room-asked : (b : Bool) → roomForAnswer area ≡ b → firstNo before-trace ≡ pick b 0 12
       room-asked b r =
-          first-no-more first (12 asks roomForAnswer area ∷ []) (target-numbered (fabricIn f) (q .port) (q .limit) (q .asked)) (sym e ∙ z) ∙ ap (λ (y : Bool). pick y 0 12) r
+          first-no-more first (12 asks roomForAnswer area ∷ [])
+          (trace-numbered (fabricIn f .isEdge (q .port)) (q .limit) (q .asked)) (sym e ∙ z)
+          ∙ ap (λ (y : Bool). pick y 0 12) r
 
       pub no-room : length area < 96 → outcome 12 area ≡ answer
       no-room short = no-before 12 (sym (room-asked false (lt-leb 96 (length area) short))) (λ y. let n : ⊥ = omega arith in n)

@@ -1,5 +1,6 @@
 pub mod Asking
 mod MoreAsked
 mod Judging
+pub mod Targets
 mod Listing
 mod Copying

@@ -1,4 +1,4 @@
--- The list: its passes, which have at most 3,225 words for each unit made, and what is answered by them. Assumes nothing.
+-- The list: its passes, which have at most 3,225 words for each unit made and 25 for each port, and what is answered by them.
 use mathlib.Core.Bool.{Bool, true, false, cond}
 use mathlib.Core.List.{List, [], _∷_, _++_, map, flatMap}
 use mathlib.Core.Option.{Option, some, none, bind, Option·elim}
@@ -16,22 +16,23 @@ use Rattle.answer.specs.Answer.{Outcome, outcome, answered, writtenAt}
 use Rattle.questions.specs.Questions.{pick, Question, _asks_, firstNo}
 use Rattle.forwarding.specs.Fabric.{Fabric, inPortOf, outPortOf, entriesWhere, undoes}
 use Rattle.forwarding.specs.BackTrace.{back, beaters}
-use Rattle.forwarding.specs.Trace.{Event, unit, find, carved, fromPort, atInPort, takenUp, stop, units, finds}
+use Rattle.forwarding.specs.Trace.{Event, unit, find, carved, fromPort, atInPort, takenUp, stop}
+use Rattle.forwarding.specs.Trace.{isInPort, inPorts, entriesIn, lostAt, lostTrace, listTrace, units, finds}
 use Rattle.forwarding.proofs.Budget.{ends-within}
 use Rattle.model.specs.Model.{fabricOf, fabricIn}
 use Rattle.events.specs.Play.{Played, findWords, listWords}
 use Rattle.events.proofs.ListPlayed.{wordsOf, ListedAll, listed-all, listed-stops}
-use Rattle.backtrace.specs.Pass.{begin, playedThen, passOf}
+use Rattle.backtrace.specs.Pass.{begin, playedThen}
 use Rattle.backtrace.specs.declared.Passed.{Passed}
-use Rattle.calls.specs.Questions.{Query, targetQuestions, orRefused}
-use Rattle.calls.specs.List.{traceAsked, wordsAsked, listQuestions}
-use Rattle.calls.proofs.Asking.{target-numbered, no-answered, yes-answered}
+use Rattle.calls.specs.Questions.{Query, listTarget, traceQuestions, orRefused}
+use Rattle.calls.specs.List.{listAsked, wordsAsked, listQuestions, listPassOf}
+use Rattle.calls.proofs.Asking.{trace-numbered, no-answered, yes-answered}
 use Rattle.calls.proofs.MoreAsked.{first-no-more, first-no-said}
 
 -- ---- carving leaves few parts, of as many words
 
 -- a care mask and a value of n words
-abbrev Sized : ℕ → Set → Type 0
+abbrev pub Sized : ℕ → Set → Type 0
 Sized n s = (length (s .care) ≡ n) × (length (s .value) ≡ n)
 
 those-few : (t : ℕ → Bool) (l : List ℕ) → length (those t l) ≤ length l
@@ -170,31 +171,60 @@ module _ (F : Fabric) (four : F .words ≡ 4) where
       few-entries (takenUp F (stop F k) t path) (λ e. few-taken-up (stop F k) t path e (omega arith) (λ o s. few-stop k o s (e ∷ path) (omega arith)))
       (entriesWhere F (λ e. eqb (outPortOf F e) o))
 
+  -- what is lost at a port may be found without a unit
+  few-ports : (g : ℕ → List Event) → ((x : ℕ) → Few 25 (g x)) → (l : List ℕ) → Few (25 * length l) (flatMap g l)
+  unfolding flatMap finds listWords units
+  few-ports g few [] = omega arith
+  few-ports g few (x ∷ l) = omega (arith, few x, few-ports g few l, words-append (g x) (flatMap g l), units-append (g x) (flatMap g l))
+
+  few-lost : (k : ℕ) (t : Set) → k ≤ 16 → Sized (F .words) t → Few (25 * F .ports) (lostTrace F k t)
+  unfolding lostTrace lostAt finds listWords units
+  few-lost zero t short s = omega arith
+  few-lost (suc k) t short s =
+      omega (
+        arith,
+        few-ports (lostAt F (stop F k) t)
+            (λ x. few-carved (atInPort F (stop F k) x [])
+            (few-at (stop F k) x [] (omega arith) (λ o u. few-stop k o u [] (omega arith))) (entriesIn F x) t s)
+            (inPorts F),
+        those-few (isInPort F) (positions (F .ports) 0),
+        positions-long (F .ports) 0,
+      )
+
+  few-listed : (limit target : ℕ) (t : Set) → limit ≤ 16 → Sized (F .words) t → Few (25 * F .ports) (listTrace F limit target t)
+  few-listed limit zero t short s = few-lost limit t short s
+  few-listed limit (suc target) t short s = omega (arith, few-stop limit (suc target) t [] (omega arith))
+
 four-words : (f : List ℕ) → fabricIn f .words ≡ 4
 unfolding fabricIn fabricOf
 four-words f = refl
+
+ports-are : (f : List ℕ) → fabricIn f .ports ≡ 4096
+unfolding fabricIn fabricOf
+ports-are f = refl
 
 -- ---- the passes
 
 -- 13. "Did the back-trace end within the budget?"
 abbrev pub withinBudget : List ℕ → Query → Bool
-withinBudget f q = leb (units (traceAsked (fabricIn f) q)) (q .budget)
+withinBudget f q = leb (units (listAsked (fabricIn f) q)) (q .budget)
 
-module _ (f : List ℕ) (q : Query) (short : q .limit ≤ 16) (small : q .budget < 2 ^ 32) where
+module _ (f : List ℕ) (q : Query) (short : q .limit ≤ 16) (small : q .budget < 2 ^ 32) (sized : Sized 4 (q .asked)) where
   abbrev es : List Event
-  es = traceAsked (fabricIn f) q
+  es = listAsked (fabricIn f) q
 
   pub few-words : withinBudget f q ≡ true → wordsOf es < 2 ^ 45
   few-words within =
       omega (
         arith,
         leb-true (units es) (q .budget) within,
-        few-stop (fabricIn f) (four-words f) (q .limit) (q .port) (q .asked) [] (omega arith),
+        few-listed (fabricIn f) (four-words f) (q .limit) (q .port) (q .asked) short (rw (four-words f) sized),
+        ports-are f,
       )
 
   module _
       (area : List ℕ) (p : Passed) (after : List ℕ)
-      (e : playedThen p after ≡ passOf f 2 (q .port) (q .limit) (q .budget) (q .asked) area)
+      (e : playedThen p after ≡ listPassOf (fabricIn f) q area)
     where
       -- a pass within the budget counts all words, and writes them if there is room for all
       pub all-listed : withinBudget f q ≡ true → ListedAll (begin area) es (playedThen p after)
@@ -227,7 +257,7 @@ module _ (f : List ℕ) (q : Query) (area : List ℕ) where
 
   -- the questions asked before the trace, and after it
   abbrev asked-first : List Question
-  asked-first = targetQuestions (fabricIn f) (q .port) (q .limit) (q .asked)
+  asked-first = traceQuestions (listTarget (fabricIn f) (q .port)) (q .limit) (q .asked)
 
   abbrev asked-then : List Question
   asked-then = 13 asks withinBudget f q ∷ 12 asks leb (4 * length ws) (length area) ∷ []
@@ -246,7 +276,7 @@ module _ (f : List ℕ) (q : Query) (area : List ℕ) where
     then-asked : (within room : Bool) → withinBudget f q ≡ within → leb (4 * length ws) (length area) ≡ room
         → number ≡ pick within (pick room 0 12) 13
     then-asked within room w r =
-        first-no-more asked-first asked-then (target-numbered (fabricIn f) (q .port) (q .limit) (q .asked)) z
+        first-no-more asked-first asked-then (trace-numbered (listTarget (fabricIn f) (q .port)) (q .limit) (q .asked)) z
         ∙ ap₂ (λ (a b : Bool). pick a (pick b 0 12) 13) w r
 
     -- "if one more is needed, question 13 gets a no"

@@ -1,5 +1,5 @@
 -- Questions 8 to 12 of document 01, "Questions asked in turn", as each call asks them after 1 to 7. Assumes nothing.
-use mathlib.Core.Bool.{Bool, _&&_}
+use mathlib.Core.Bool.{Bool, not, _&&_, _||_}
 use mathlib.Core.List.{List, [], _∷_}
 use Prim.Native.Nat.{ℕ, _+_, _*_, _-_, _^_}
 use lib.Dec.{leb, eqb}
@@ -41,9 +41,13 @@ askedTidy s = tidy headerWords s
 abbrev pub caresForAll : Set → Bool
 caresForAll s = every headerWords (λ w. eqb (word (s .care) w) (2 ^ 32 - 1))
 
--- 8. "is the target an edge port?", and 9 and 10: what verdict and list ask first
-abbrev pub targetQuestions : Fabric → ℕ → ℕ → Set → List Question
-targetQuestions F target limit asked = 8 asks F .isEdge target ∷ 9 asks limitRight limit ∷ 10 asks askedTidy asked ∷ []
+-- Q8 of a list: the target is an edge port, or it is 0 where a packet that no entry takes is lost
+abbrev pub listTarget : Fabric → ℕ → Bool
+listTarget F target = F .isEdge target || (eqb target 0 && not (F .missDrops))
+
+-- Q8 by what it asks of the target, Q9 and Q10: what verdict and list ask first
+abbrev pub traceQuestions : Bool → ℕ → Set → List Question
+traceQuestions right limit asked = 8 asks right ∷ 9 asks limitRight limit ∷ 10 asks askedTidy asked ∷ []
 
 -- 12. "Are 96 bytes lent (verdict, run)?"
 abbrev pub roomForAnswer : List ℕ → Bool

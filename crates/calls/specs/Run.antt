@@ -15,7 +15,7 @@ abbrev pub packetRun : Forwarding.Fabric → Query → Packet
 packetRun F q = run F (q .limit) (q .port) (q .asked .value)
 
 abbrev pub runWordsAsked : Forwarding.Fabric → Query → List ℕ
-runWordsAsked F q = packetWords (packetRun F q)
+runWordsAsked F q = packetWords F (packetRun F q)
 
 -- the questions after 1 to 7, in turn
 abbrev pub runQuestions : Forwarding.Fabric → Query → List ℕ → List Question

@@ -7,16 +7,21 @@ use Rattle.answer.specs.Answer.{Outcome}
 use Rattle.questions.specs.Questions.{accepted, Question, _asks_}
 use Rattle.questions.specs.declared.Read.{Read}
 use Rattle.forwarding.specs.Fabric as Forwarding
+use Rattle.forwarding.specs.Trace.{Event, trace}
 use Rattle.forwarding.specs.Verdict.{Verdict, isolated, reached, unitsIn, verdictOn}
 use Rattle.events.specs.Play.{reachedWords}
-use Rattle.calls.specs.Questions.{Query, targetQuestions, roomForAnswer, answerBy}
+use Rattle.calls.specs.Questions.{Query, traceQuestions, roomForAnswer, answerBy}
 
 -- "0 isolated or 1 reached; units made; .. Isolated has 0 from word 2 on."
 unfoldable pub verdictWords : Verdict → List ℕ
 verdictWords (isolated units) = 0 ∷ units ∷ replicate 22 0
 verdictWords (reached units port path h) = reachedWords units port path h
 
--- the verdict that a query asks for, were there no budget
+-- the events of the back-trace that a query asks for, were there no budget
+abbrev pub traceAsked : Forwarding.Fabric → Query → List Event
+traceAsked F q = trace F (q .limit) (q .port) (q .asked)
+
+-- the verdict on them
 abbrev pub verdictAsked : Forwarding.Fabric → Query → Verdict
 verdictAsked F q = verdictOn F (q .port) (q .limit) (q .asked)
 
@@ -27,7 +32,8 @@ verdictWordsAsked F q = verdictWords (verdictAsked F q)
 -- 13. "Did the back-trace end within the budget?"
 abbrev pub verdictQuestions : Forwarding.Fabric → Query → List ℕ → List Question
 verdictQuestions F q area =
-    targetQuestions F (q .port) (q .limit) (q .asked) ++ (12 asks roomForAnswer area ∷ 13 asks leb (unitsIn (verdictAsked F q)) (q .budget) ∷ [])
+    traceQuestions (F .isEdge (q .port)) (q .limit) (q .asked)
+    ++ (12 asks roomForAnswer area ∷ 13 asks leb (unitsIn (verdictAsked F q)) (q .budget) ∷ [])
 
 abbrev pub verdictAnswer : List ℕ → Query → Read → List ℕ → Outcome
 verdictAnswer f q r area = answerBy verdictQuestions verdictWordsAsked f q r area

@@ -1,13 +1,16 @@
 // Document 01's calls on an accepted fabric: questions 8 to 13, and the answer. Each returns the number of the first no, or the words of
 // its answer × 256; after a no every lent byte is as it was.
+use backtrace::Passed;
 use headers::HeaderSet;
 use index::CELLS;
 use index::UNUSED;
 use questions::ask;
 use records::Shape;
+ghost use mathlib.Core.Bool.{true, not, _&&_};
 ghost use mathlib.Core.List.{_++_};
 ghost use mathlib.Core.Path.{_≡_};
 ghost use Prim.Native.Nat.{_*_, _≤_};
+ghost use lib.Dec.{eqb};
 ghost use lib.ListN.{length, take, drop};
 ghost use Rattle.headers.specs.Forms.{setOf};
 ghost use Rattle.answer.specs.Answer.{outcome, writtenAt};
@@ -17,10 +20,12 @@ ghost use Rattle.questions.specs.declared.Read.the-variants.{Fabric};
 ghost use Rattle.file.specs.Accepted.{Accepted};
 ghost use Rattle.forwarding.specs.Verdict.{isolated};
 ghost use Rattle.model.specs.Model.{fabricIn};
-ghost use Rattle.calls.specs.Questions.{query, limitRight, caresForAll, targetQuestions};
+ghost use Rattle.index.specs.Index.{Index};
+ghost use Rattle.backtrace.specs.Pass.{playedThen};
+ghost use Rattle.calls.specs.Questions.{query, limitRight, caresForAll, listTarget, traceQuestions};
 ghost use Rattle.calls.specs.Run.{runAnswer};
 ghost use Rattle.calls.specs.Verdict.{verdictWords, verdictAnswer};
-ghost use Rattle.calls.specs.List.{listAnswer};
+ghost use Rattle.calls.specs.List.{listPassOf, listAnswer};
 
 // The bytes of a verdict's or a run's answer, and what is returned with its 24 words.
 const ANSWER: usize = 96;
@@ -64,8 +69,24 @@ fn is_edge(file: &[u8], shape: Shape, edge_of: &[u16; 4096], port: u32) -> bool
     0 < edge_of[port as usize]
 }
 
-// Questions 8, 9 and 10, which verdict and list ask first: the number of the first no, or 0.
-fn target_no(
+// Does target 0 ask for the packets that are lost? Not where they are dropped.
+fn lost_asked(file: &[u8], shape: Shape, target: u32) -> bool
+    requires { ⌜ Accepted (now file) shape ⌝ }
+    ensures { λ r. ⌜ r ≡ (eqb target 0 && not (fabricIn (now (file .entry)) .missDrops)) ⌝ }
+{
+    (target == 0) & !model::miss_drops(file, shape)
+}
+
+// Questions 8, 9 and 10, which verdict and list ask first: the number of the first no, or 0. The first is whether the target is right.
+fn trace_no(right: bool, limit: u32, asked: HeaderSet) -> u32
+    ensures { λ r. ⌜ r ≡ firstNo (traceQuestions right limit (setOf asked)) ⌝ }
+{
+    let tidy = asked.is_tidy();
+    ask(8, right, ask(9, limit_right(limit), ask(10, tidy, 0)))
+}
+
+// As the verdict asks them.
+fn verdict_no(
     file: &[u8],
     shape: Shape,
     edge_of: &[u16; 4096],
@@ -75,11 +96,28 @@ fn target_no(
 ) -> u32
     requires { ⌜ Accepted (now file) shape ⌝ }
     requires { ⌜ EdgeTable (now file) (shape .edges) (now «edge_of») ⌝ }
-    ensures { λ r. ⌜ r ≡ firstNo (targetQuestions (fabricIn (now (file .entry))) target limit (setOf asked)) ⌝ }
+    ensures { λ r. ⌜ r ≡ firstNo (traceQuestions (fabricIn (now (file .entry)) .isEdge target) limit (setOf asked)) ⌝ }
 {
     let edge = is_edge(file, shape, edge_of, target);
-    let tidy = asked.is_tidy();
-    ask(8, edge, ask(9, limit_right(limit), ask(10, tidy, 0)))
+    trace_no(edge, limit, asked)
+}
+
+// As the list asks them.
+fn list_no(
+    file: &[u8],
+    shape: Shape,
+    edge_of: &[u16; 4096],
+    target: u32,
+    limit: u32,
+    asked: HeaderSet,
+) -> u32
+    requires { ⌜ Accepted (now file) shape ⌝ }
+    requires { ⌜ EdgeTable (now file) (shape .edges) (now «edge_of») ⌝ }
+    ensures { λ r. ⌜ r ≡ firstNo (traceQuestions (listTarget (fabricIn (now (file .entry))) target) limit (setOf asked)) ⌝ }
+{
+    let edge = is_edge(file, shape, edge_of, target);
+    let lost = lost_asked(file, shape, target);
+    trace_no(edge | lost, limit, asked)
 }
 
 // ---- the packet run
@@ -146,7 +184,7 @@ pub fn verdict_accepted(
     requires { ⌜ EdgeTable (now file) (shape .edges) (now «edge_of») ⌝ }
     ensures { λ r. ⌜ outcome r (now (area .exit)) ≡ verdictAnswer (now (file .entry)) (query target limit budget (setOf asked)) (Fabric shape) (now (area .entry)) ⌝ }
 {
-    let no = target_no(file, shape, edge_of, target, limit, asked);
+    let no = verdict_no(file, shape, edge_of, target, limit, asked);
     if no != 0 {
         return no as u64;
     }
@@ -192,6 +230,43 @@ fn copy_words(area: &mut [u8], own: &[u8], words: usize)
     }
 }
 
+// A pass over the finds at an edge port, or over the packets that are lost.
+fn list_pass(
+    file: &[u8],
+    area: &mut [u8],
+    shape: Shape,
+    edge_of: &[u16; 4096],
+    index: &[u16; CELLS],
+    target: u32,
+    limit: u32,
+    budget: u32,
+    asked: HeaderSet,
+) -> Passed
+    requires { ⌜ Accepted (now file) shape ⌝ }
+    requires { ⌜ EdgeTable (now file) (shape .edges) (now «edge_of») ⌝ }
+    requires { ⌜ Index (now file) (now index) ⌝ }
+    requires { ⌜ listTarget (fabricIn (now file)) target ≡ true ⌝ }
+    requires { ⌜ (1 ≤ limit) × (limit ≤ 16) ⌝ }
+    ensures { λ r. ⌜ playedThen r (now (area .exit))
+        ≡ listPassOf (fabricIn (now (file .entry))) (query target limit budget (setOf asked)) (now (area .entry)) ⌝ }
+{
+    if target == 0 {
+        return losses::lost_pass(file, area, shape, index, limit, budget, asked);
+    }
+    backtrace::pass(
+        file,
+        area,
+        shape,
+        edge_of,
+        index,
+        events::LIST,
+        target,
+        limit,
+        budget,
+        asked,
+    )
+}
+
 // The list on an accepted file, after questions 8 to 10. No lent byte may change before questions 13 and 12 got a yes, so the trace
 // writes to bytes of its own, from which the words are copied; a list that they don't hold is traced again.
 pub fn list_accepted(
@@ -208,20 +283,19 @@ pub fn list_accepted(
     requires { ⌜ EdgeTable (now file) (shape .edges) (now «edge_of») ⌝ }
     ensures { λ r. ⌜ outcome r (now (area .exit)) ≡ listAnswer (now (file .entry)) (query target limit budget (setOf asked)) (Fabric shape) (now (area .entry)) ⌝ }
 {
-    let no = target_no(file, shape, edge_of, target, limit, asked);
+    let no = list_no(file, shape, edge_of, target, limit, asked);
     if no != 0 {
         return no as u64;
     }
     let mut index = [UNUSED; CELLS];
     index::fill(file, shape, &mut index);
     let mut own = [0u8; OWN_BYTES];
-    let counted = backtrace::pass(
+    let counted = list_pass(
         file,
         &mut own,
         shape,
         edge_of,
         &index,
-        events::LIST,
         target,
         limit,
         budget,
@@ -239,13 +313,12 @@ pub fn list_accepted(
         copy_words(area, &own, words as usize);
         return words * 256;
     }
-    backtrace::pass(
+    list_pass(
         file,
         area,
         shape,
         edge_of,
         &index,
-        events::LIST,
         target,
         limit,
         budget,

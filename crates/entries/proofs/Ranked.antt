@@ -1,17 +1,18 @@
 -- The entries of an in-port from a priority on, along the chain of that in-port; an entry's beaters are such.
-use mathlib.Core.Bool.{Bool, false, _&&_}
+use mathlib.Core.Bool.{Bool, false, _&&_, and-true}
 use mathlib.Core.List.{List, [], _∷_}
 use mathlib.Core.Path.{_≡_, refl, sym, ap, ap₂, _∙_}
 use Prim.Native.Nat.{ℕ, suc, _+_, _-_, _≤_, _<_}
 use native.Mathlib.Decide.{decLt}
 use native.Mathlib.Omega.{arith}
 use borrow.Author.Tests.{le-leb, lt-leb, eq-eqb, ne-eqb}
-use lib.Dec.{eqb, leb}
+use lib.Dec.{eqb, leb, leb·zero}
 use lib.ListN.{getD}
 use Rattle.headers.specs.Bits.{positions, those}
 use Rattle.headers.proofs.SetBits.{those-same}
 use Rattle.forwarding.specs.Fabric.{Fabric, inPortOf, priorityOf, outranks, beats}
 use Rattle.forwarding.specs.BackTrace.{beaters}
+use Rattle.forwarding.specs.Trace.{entriesIn}
 use Rattle.model.specs.Model.{AFabric, fabricIn}
 use Rattle.index.specs.Index.{Index, nextIn}
 use Rattle.index.proofs.Chained.{Next}
@@ -32,6 +33,13 @@ beaters-ranked f e q h =
     those-same _ _ (f .entries) 0 (λ b l m. ap (λ (x : Bool). eqb (inPortOf f b) (inPortOf f e) && x) (sym (h (priorityOf f b))))
     ∙ ap (λ (k : ℕ). those (λ b. eqb (inPortOf f b) (inPortOf f e) && leb q (priorityOf f b)) (positions k 0))
     (let whole : f .entries ≡ f .entries - 0 = omega arith in whole)
+
+-- all entries of an in-port have priority 0 or a higher one
+pub all-ranked : (f : Fabric) (x : ℕ) → rankedFrom f x 0 0 ≡ entriesIn f x
+all-ranked f x =
+    ap (λ (k : ℕ). those (λ b. eqb (inPortOf f b) x && leb 0 (priorityOf f b)) (positions k 0))
+    (let whole : f .entries - 0 ≡ f .entries = omega arith in whole)
+    ∙ those-same _ _ (f .entries) 0 (λ b l m. ap (λ (p : Bool). eqb (inPortOf f b) x && p) (leb·zero (priorityOf f b)) ∙ and-true _)
 
 -- ---- along the chain of an in-port
 

@@ -35,7 +35,6 @@ baseOf ask = getD ask 5 0
 
 pub record Asked (f ask : List ℕ) : Type 0 where
   pub fabric : AFabric f
-  pub floor-low : floorOf ask ≤ 15
   pub group-is : groupOf ask ≡ fabricIn f .group (targetOf ask)
   pub base-is : baseOf ask ≡ entriesAt f
 

@@ -18,7 +18,7 @@ use Rattle.questions.specs.Questions.{inOrder, portsRight, setsTidy, linkFree, 
 use Rattle.forwarding.specs.Fabric.{holds, beats, applied, undoes}
 use Rattle.forwarding.specs.Run.{unbeaten, takes, takers, hop, run, fateOf, portOf, headerOf, takenBy}
 use Rattle.forwarding.specs.BackTrace.{back, beaters}
-use Rattle.forwarding.specs.Trace.{carved, atInPort, takenUp, stop, units, finds}
+use Rattle.forwarding.specs.Trace.{carved, atInPort, takenUp, stop, lostAt, lostTrace, units, finds}
 use Rattle.forwarding.specs.Verdict.{foreignPacket, verdict, unitsIn}
 use Rattle.model.specs.Model.{shapeIn, edgeAt, linkBeginning, linkEnding, fabricOf, fabricIn}
 use Rattle.events.specs.Play.{findWords, listWords, reachedWords}
@@ -61,6 +61,10 @@ computingRun = tt
 unfoldable pub computing : Unit {0}
 unfolding computingTrace computingWords units finds foreignPacket verdict unitsIn verdictCall listCall
 computing = tt
+
+unfoldable pub computingLost : Unit {0}
+unfolding computing lostAt lostTrace
+computingLost = tt
 
 -- ---- question 12
 

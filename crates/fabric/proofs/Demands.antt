@@ -1,15 +1,16 @@
 -- The three demands hold: the first of each call by its definition, the others by forwarding's theorems, as an accepted file's fabric is
 -- sound, and the words of an answer are read back as they were written. Assumes nothing.
-use mathlib.Core.Bool.{true, false≢true}
+use mathlib.Core.Bool.{true, false, false≢true}
 use mathlib.Core.List.{List, _++_}
 use mathlib.Core.Logic.{_↔_}
 use mathlib.Core.Option.{some}
 use mathlib.Core.Path.{_≡_, refl, sym, ap, ap₂, _∙_, subst}
-use Prim.Native.Nat.{ℕ, _*_, _/_, _^_, _≤_, _<_}
+use Prim.Native.Nat.{ℕ, zero, suc, _*_, _/_, _^_, _≤_, _<_}
 use native.Mathlib.Omega.{arith}
 use borrow.Author.Tests.{ne-eqb, leb-true}
 use lib.ListN.{length, drop}
-use Rattle.headers.specs.Sets.{Header, WellFormed, lowest}
+use Rattle.headers.specs.Bits.{Words}
+use Rattle.headers.specs.Sets.{Header, contains, WellFormed, lowest}
 use Rattle.headers.proofs.Members.{lowest-member, lowest-fits}
 use Rattle.answer.specs.Answer.{Outcome, refused, answered, bytesOf}
 use Rattle.records.specs.Words.{wordsFrom}
@@ -19,30 +20,34 @@ use Rattle.questions.specs.Questions.{accepted}
 use Rattle.questions.specs.declared.Read.{Read}
 use Rattle.file.specs.Accepted.{Accepted}
 use Rattle.forwarding.specs.Fabric.{Fabric, Sound}
-use Rattle.forwarding.specs.Trace.{units, finds}
+use Rattle.forwarding.specs.Choices.{IsListed}
+use Rattle.forwarding.specs.Trace.{Find, listTrace, units, finds}
 use Rattle.forwarding.specs.Verdict.{Verdict, isolated, reached, unitsIn, isIsolated, NoLeak}
 use Rattle.forwarding.proofs.Lists.{All}
 use Rattle.forwarding.proofs.Ways.{CanGo, way-entries}
 use Rattle.forwarding.proofs.BackTraced.{back-traced-exactly}
+use Rattle.forwarding.proofs.WaysBack.{EdgeSet}
 use Rattle.forwarding.proofs.Finds.{edge-set, find-sound}
 use Rattle.forwarding.proofs.Arrivals as arrivals
+use Rattle.forwarding.proofs.Losses as losses
 use Rattle.forwarding.proofs.Stops as stops
 use Rattle.forwarding.proofs.Verdicts as verdicts
 use Rattle.model.specs.Model.{fabricOf, fabricIn}
 use Rattle.model.proofs.Soundness.{fabric-sound}
 use Rattle.events.specs.Play.{reachedWords}
-use Rattle.calls.specs.Questions.{Query, askedTidy, orRefused}
-use Rattle.calls.specs.Verdict.{verdictAsked, verdictWords}
-use Rattle.calls.specs.List.{traceAsked, wordsAsked}
+use Rattle.calls.specs.Questions.{Query, askedTidy, listTarget, orRefused}
+use Rattle.calls.specs.Verdict.{traceAsked, verdictAsked, verdictWords}
+use Rattle.calls.specs.List.{listAsked, wordsAsked}
 use Rattle.calls.proofs.Asking.{limit-range}
+use Rattle.calls.proofs.Targets.{lost-asked, edge-asked}
 use Rattle.fabric.specs.Calls.{answerOf, callOf}
-use Rattle.fabric.specs.Demands.{Demand1, Demand2, VerdictSays, ListSays, RunSays, OfWords, Demand3}
+use Rattle.fabric.specs.Demands.{Demand1, Demand2, VerdictSays, HoldJust, ListSays, RunSays, OfWords, Demand3}
 use Rattle.fabric.specs.Demands.{said, findsRead}
 use Rattle.fabric.specs.declared.Call.{Call}
 use Rattle.fabric.specs.declared.Call.the-variants as Calls
 use Rattle.fabric.proofs.Calls.{call-answers, succeeded}
 use Rattle.fabric.proofs.Said.{words-back}
-use Rattle.fabric.proofs.FindsSaid.{AllSayable, finds-back, fit-finds}
+use Rattle.fabric.proofs.FindsSaid.{Sayable, AllSayable, finds-back, fit-finds}
 use Rattle.fabric.proofs.Bounds.{all-below, fit-entries, edge-port, entries-few}
 use Rattle.fabric.proofs.AnswerSaid.{answer-says}
 use Rattle.fabric.proofs.RunSaid.{run-said}
@@ -163,40 +168,88 @@ module _ (f : List ℕ) (s : Shape) (ok : Accepted f s) (q : Query) where
           by-verdict (isolated u) e l = says-isolated u e l
           by-verdict (reached u p path h) e l = says-reached u p path h e l
 
-      -- ---- the list
+  -- ---- the list
 
-      sayable : AllSayable (finds (traceAsked F q))
-      unfolding fabricIn fabricOf
-      sayable d m =
-          let is = edge-set F sound (q .limit) (q .port) (q .asked) wa d m in
-          let set-is = is .well-formed in
-          let c = find-sound F sound (q .limit) (q .port) (q .asked) wa d m (lowest headerWords (d .set))
-          (lowest-fits headerWords (d .set) (set-is .care)) (lowest-member headerWords (d .set) (set-is .care)) in
-          record {
-            port = edge-port f s ok (d .port) (is .edge);
-            hops = omega (arith, c .short);
-            entries = entries-low (2 ^ 28) (omega arith) c;
-            care = set-is .care;
-            value = set-is .value;
-          }
+  module _ (wa : WellFormed headerWords (q .asked)) (limit : q .limit ≤ 16) where
+    -- what a way's find has room for in its words
+    room-for : {d : Find} → EdgeSet F d → length (d .path) ≤ 16 → All (λ e. e < F .entries) (d .path) → Sayable d
+    unfolding fabricIn fabricOf
+    room-for {d} is short low = record {
+      port = edge-port f s ok (d .port) (is .edge);
+      hops = omega arith;
+      entries = all-below (F .entries) (2 ^ 28) (omega (arith, entries-few f s ok)) (d .path) low;
+      care = is .well-formed .care;
+      value = is .well-formed .value;
+    }
 
-      list-said : units (traceAsked F q) ≤ q .budget → ListSays F q (answered (wordsAsked F q) area)
-      unfolding answered fabricIn fabricOf
-      list-said l =
-          let ws : List ℕ = wordsAsked F q in
-          let n : length ws * 256 / 256 ≡ length ws = omega arith in
-          record {
-            listed =
-                ap₂ (λ (k m : ℕ). findsRead k (wordsFrom m (bytesOf ws ++ drop (4 * length ws) area) 0)) n n
-                ∙ ap (findsRead (length ws)) (words-back ws (drop (4 * length ws) area) (fit-finds (finds (traceAsked F q)) sayable))
-                ∙ finds-back (finds (traceAsked F q)) sayable (length ws) (omega arith);
-            listed-once = arrivals.arrival-found F sound (q .limit) (q .port) (q .asked) edge wa;
-            listed-else-none = arrivals.else-none F sound (q .limit) (q .port) (q .asked) edge wa;
-            listed-edge = λ d m. edge-set F sound (q .limit) (q .port) (q .asked) wa d m .edge;
-            listed-set = λ d m. edge-set F sound (q .limit) (q .port) (q .asked) wa d m .well-formed;
-            listed-arrive = arrivals.find-arrives F sound (q .limit) (q .port) (q .asked) edge wa;
-            within-budget = l;
-          }
+    -- the lowest header of a find, by which its way is known
+    low-of : {d : Find} → EdgeSet F d
+        → (Words (F .words) (lowest (F .words) (d .set))) × (contains (F .words) (d .set) (lowest (F .words) (d .set)) ≡ true)
+    low-of {d} is = (lowest-fits (F .words) (d .set) (is .well-formed .care), lowest-member (F .words) (d .set) (is .well-formed .care))
+
+    -- the finds of a list, and what they hold
+    record Held (target : ℕ) : Type 0 where
+      hold-just : HoldJust F (finds (listTrace F (q .limit) target (q .asked))) (IsListed F (q .limit) target (q .asked))
+      sayable : AllSayable (finds (listTrace F (q .limit) target (q .asked)))
+
+    -- of packets that arrive
+    held-edge : (target : ℕ) → F .isEdge (suc target) ≡ true → Held (suc target)
+    unfolding fabricIn fabricOf
+    held-edge target edge =
+        let t : ℕ = suc target in
+        record {
+          hold-just = record {
+            once = arrivals.arrival-found F sound (q .limit) t (q .asked) edge wa;
+            else-none = arrivals.else-none F sound (q .limit) t (q .asked) edge wa;
+            edge-port = λ d m. edge-set F sound (q .limit) t (q .asked) wa d m .edge;
+            well-formed = λ d m. edge-set F sound (q .limit) t (q .asked) wa d m .well-formed;
+            only = arrivals.find-arrives F sound (q .limit) t (q .asked) edge wa;
+          };
+          sayable = λ d m.
+              let is = edge-set F sound (q .limit) t (q .asked) wa d m in
+              let low = low-of is in
+              let c = find-sound F sound (q .limit) t (q .asked) wa d m _ (low .0) (low .1) in
+              room-for is (omega (arith, c .short)) (way-entries F (d .port) _ c);
+        }
+
+    -- of packets that are lost
+    held-lost : F .missDrops ≡ false → Held 0
+    unfolding fabricIn fabricOf
+    held-lost old = record {
+      hold-just = record {
+        once = losses.loss-found F sound old (q .limit) (q .asked) wa;
+        else-none = losses.else-none F sound old (q .limit) (q .asked) wa;
+        edge-port = λ d m. losses.lost-edge-set F sound (q .limit) (q .asked) wa d m .edge;
+        well-formed = λ d m. losses.lost-edge-set F sound (q .limit) (q .asked) wa d m .well-formed;
+        only = losses.find-loses F sound old (q .limit) (q .asked) wa;
+      };
+      sayable = λ d m.
+          let is = losses.lost-edge-set F sound (q .limit) (q .asked) wa d m in
+          let low = low-of is in
+          let l = losses.find-loses F sound old (q .limit) (q .asked) wa d m _ (low .0) (low .1) in
+          room-for is (omega (arith, l .within)) (losses.loss-entries F sound old (q .limit) (q .asked) (d .port) (d .path) _ l);
+    }
+
+    -- by the target that question 8 let through
+    held : (target : ℕ) → listTarget F target ≡ true → Held target
+    held zero e = held-lost (lost-asked F sound e)
+    held (suc target) e = held-edge target (edge-asked F (suc target) (λ z. let y : ⊥ = omega arith in y) e)
+
+    list-said : (area : List ℕ) → listTarget F (q .port) ≡ true → units (listAsked F q) ≤ q .budget
+        → ListSays F q (answered (wordsAsked F q) area)
+    unfolding answered
+    list-said area e l =
+        let ws : List ℕ = wordsAsked F q in
+        let n : length ws * 256 / 256 ≡ length ws = omega arith in
+        let h = held (q .port) e in
+        record {
+          listed =
+              ap₂ (λ (k m : ℕ). findsRead k (wordsFrom m (bytesOf ws ++ drop (4 * length ws) area) 0)) n n
+              ∙ ap (findsRead (length ws)) (words-back ws (drop (4 * length ws) area) (fit-finds (finds (listAsked F q)) (h .sayable)))
+              ∙ finds-back (finds (listAsked F q)) (h .sayable) (length ws) (omega arith);
+          hold-just = h .hold-just;
+          within-budget = l;
+        }
 
 -- ---- demand 3: of every call that succeeds, for then every question got a yes
 
@@ -212,7 +265,7 @@ demand-3 f q area w = record {
       let yes = succeeded Calls.List f q area e in
       let y = yes .yeses in
       subst (ListSays (fabricIn f) q) (sym (demand-1 Calls.List f q area .all-answered (yes .shape) (yes .is-accepted) (yes .no-no)))
-      (list-said f (yes .shape) (yes .is-accepted) q (y .0) (tidied (y .1 .1 .0)) (limit-range (q .limit) (y .1 .0) .1) (w .budget) area
+      (list-said f (yes .shape) (yes .is-accepted) q (tidied (y .1 .1 .0)) (limit-range (q .limit) (y .1 .0) .1) area (y .0)
       (leb-true _ _ (y .1 .1 .1 .0)));
   run-says = λ e.
       let yes = succeeded Calls.Run f q area e in

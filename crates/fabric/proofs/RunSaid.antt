@@ -11,10 +11,10 @@ use Rattle.records.specs.Records.{headerWords}
 use Rattle.records.specs.declared.Shape.{Shape}
 use Rattle.file.specs.Accepted.{Accepted}
 use Rattle.forwarding.specs.Fabric.{Fabric}
-use Rattle.forwarding.specs.Run.{Packet, left, dropped, lost, travelling, tied, fateOf, portOf, headerOf, takenBy, entriesTaken}
+use Rattle.forwarding.specs.Run.{Packet, left, dropped, missed, travelling, tied, fateOf, portOf, headerOf, takenBy, entriesTaken}
 use Rattle.forwarding.specs.Choices.{EndsIn}
 use Rattle.forwarding.proofs.Lists.{All, all-reverse}
-use Rattle.forwarding.proofs.Runs.{run-ends, hops-within}
+use Rattle.forwarding.proofs.Runs.{miss-fate-low, run-ends, hops-within}
 use Rattle.forwarding.proofs.RunFits.{run-fits}
 use Rattle.forwarding.proofs.Choices.{run-can-end, run-only-end, run-tied}
 use Rattle.model.specs.Model.{fabricOf, fabricIn}
@@ -23,43 +23,36 @@ use Rattle.model.proofs.Ports.{out-port-low, link-to-low}
 use Rattle.journey.specs.Journey.{packetWords}
 use Rattle.calls.specs.Questions.{Query}
 use Rattle.calls.specs.Run.{packetRun, runWordsAsked}
-use Rattle.fabric.specs.Demands.{said, entriesSaid, fated, packetSaid, RunSays}
+use Rattle.fabric.specs.Demands.{said, entriesSaid, PacketSaid, RunSays}
 use Rattle.fabric.proofs.Bounds.{all-below, fit-entries, edge-port, entries-few}
 use Rattle.fabric.proofs.AnswerSaid.{filledBy, Says, answer-says}
 
 -- ---- a packet and its fate
 
-fate-below : (s : Packet) → fateOf s < 5
-unfolding fateOf
-fate-below (left o h r) = omega arith
-fate-below (dropped x h r) = omega arith
-fate-below (lost x h r) = omega arith
-fate-below (travelling x h r) = omega arith
-fate-below (tied x h r) = omega arith
+module _ (f : Fabric) where
+  fate-below : (s : Packet) → fateOf f s < 5
+  unfolding fateOf
+  fate-below (left o h r) = omega arith
+  fate-below (dropped x h r) = omega arith
+  fate-below (missed x h r) = omega (arith, miss-fate-low f)
+  fate-below (travelling x h r) = omega arith
+  fate-below (tied x h r) = omega arith
 
-fated-is : (s : Packet) → fated (fateOf s) (portOf s) (headerOf s) (takenBy s) ≡ s
-unfolding fateOf portOf headerOf takenBy
-fated-is (left o h r) = refl
-fated-is (dropped x h r) = refl
-fated-is (lost x h r) = refl
-fated-is (travelling x h r) = refl
-fated-is (tied x h r) = refl
+  tied-is : (s : Packet) → fateOf f s ≡ 4 → s ≡ tied (portOf s) (headerOf s) (takenBy s)
+  unfolding fateOf portOf headerOf takenBy
+  tied-is (left o h r) e = absurd (omega arith)
+  tied-is (dropped x h r) e = absurd (omega arith)
+  tied-is (missed x h r) e = absurd (omega (arith, miss-fate-low f))
+  tied-is (travelling x h r) e = absurd (omega arith)
+  tied-is (tied x h r) e = refl
 
-tied-is : (s : Packet) → fateOf s ≡ 4 → s ≡ tied (portOf s) (headerOf s) (takenBy s)
-unfolding fateOf portOf headerOf takenBy
-tied-is (left o h r) e = absurd (omega arith)
-tied-is (dropped x h r) e = absurd (omega arith)
-tied-is (lost x h r) e = absurd (omega arith)
-tied-is (travelling x h r) e = absurd (omega arith)
-tied-is (tied x h r) e = refl
-
-tied-short : (limit : ℕ) (s : Packet) → fateOf s ≡ 4 → EndsIn limit s → length (takenBy s) < limit
-unfolding fateOf takenBy EndsIn
-tied-short limit (left o h r) e d = absurd (omega arith)
-tied-short limit (dropped x h r) e d = absurd (omega arith)
-tied-short limit (lost x h r) e d = absurd (omega arith)
-tied-short limit (travelling x h r) e d = absurd (omega arith)
-tied-short limit (tied x h r) e d = d
+  tied-short : (limit : ℕ) (s : Packet) → fateOf f s ≡ 4 → EndsIn limit s → length (takenBy s) < limit
+  unfolding fateOf takenBy EndsIn
+  tied-short limit (left o h r) e d = absurd (omega arith)
+  tied-short limit (dropped x h r) e d = absurd (omega arith)
+  tied-short limit (missed x h r) e d = absurd (omega (arith, miss-fate-low f))
+  tied-short limit (travelling x h r) e d = absurd (omega arith)
+  tied-short limit (tied x h r) e d = d
 
 -- ---- the words
 
@@ -72,16 +65,16 @@ module _ (f : List ℕ) (s : Shape) (ok : Accepted f s) (q : Query) (edge : fabr
   packet = packetRun F q
 
   abbrev ws : List ℕ
-  ws = filledBy (fateOf packet) 0 (portOf packet) (entriesTaken packet) (headerOf packet)
+  ws = filledBy (fateOf F packet) 0 (portOf packet) (entriesTaken packet) (headerOf packet)
 
-  words-are : packetWords packet ≡ ws
+  words-are : packetWords F packet ≡ ws
   unfolding packetWords
   words-are =
-      ap (λ (n : ℕ). fateOf packet ∷ 0 ∷ portOf packet ∷ n ∷ (headerOf packet ++ sixteen (entriesTaken packet)))
+      ap (λ (n : ℕ). fateOf F packet ∷ 0 ∷ portOf packet ∷ n ∷ (headerOf packet ++ sixteen (entriesTaken packet)))
       (sym (length-reverse (takenBy packet)))
 
   abbrev SaysPacket : Type 0
-  SaysPacket = Says (fateOf packet) 0 (portOf packet) (entriesTaken packet) (headerOf packet) (answered ws area)
+  SaysPacket = Says (fateOf F packet) 0 (portOf packet) (entriesTaken packet) (headerOf packet) (answered ws area)
 
   says-words : SaysPacket
   unfolding fabricIn fabricOf
@@ -92,8 +85,8 @@ module _ (f : List ℕ) (s : Shape) (ok : Accepted f s) (q : Query) (edge : fabr
       let low = all-below (F .entries) (2 ^ 32) (omega (arith, entries-few f s ok)) (entriesTaken packet)
       (all-reverse _ (entriesTaken packet) (subst (All _) (sym (reverse-reverse (takenBy packet))) (fits .entries)))
       in
-      answer-says (fateOf packet) 0 (portOf packet) (entriesTaken packet) (headerOf packet) area
-      (omega (arith, fate-below packet))
+      answer-says (fateOf F packet) 0 (portOf packet) (entriesTaken packet) (headerOf packet) area
+      (omega (arith, fate-below F packet))
       (omega arith)
       (omega (arith, fits .port))
       (omega (arith, hops-within F (q .limit) (q .port) (q .asked .value), length-reverse (takenBy packet)))
@@ -105,21 +98,25 @@ module _ (f : List ℕ) (s : Shape) (ok : Accepted f s) (q : Query) (edge : fabr
       let taken-are : reverse (entriesSaid (answered ws area)) ≡ takenBy packet =
       ap reverse (says .entries) ∙ reverse-reverse (takenBy packet)
       in
-      let packet-is : packetSaid (answered ws area) ≡ packet = rw (says .first, says .port, says .header, taken-are) (fated-is packet) in
-      let tie : said (answered ws area) 0 ≡ 4 → fateOf packet ≡ 4 = λ d. sym (says .first) ∙ d in
+      let is-said : PacketSaid F (answered ws area) packet =
+      record { fate = says .first; port = says .port; header = says .header; entries = says .entries }
+      in
+      let tie : said (answered ws area) 0 ≡ 4 → fateOf F packet ≡ 4 = λ d. sym (says .first) ∙ d in
       record {
         fills = says .fills;
         second = says .second;
         rest = λ k m. says .rest k (omega (arith, says .hops));
-        can-end = λ n. rw packet-is (run-can-end F (q .port) (q .asked .value) (q .limit) (λ d. n (says .first ∙ d)));
-        only-end = λ n c e. packet-is ∙ run-only-end F (q .port) (q .asked .value) (q .limit) c (λ d. n (says .first ∙ d)) e;
+        can-end = λ n. (packet, run-can-end F (q .port) (q .asked .value) (q .limit) (λ d. n (says .first ∙ d)), is-said);
+        only-end = λ n c e.
+            subst (PacketSaid F (answered ws area))
+            (run-only-end F (q .port) (q .asked .value) (q .limit) c (λ d. n (says .first ∙ d)) e) is-said;
         tied-there = λ d. rw (says .port, says .header, taken-are)
-            (run-tied F (q .port) (q .asked .value) (q .limit) _ _ _ (tied-is packet (tie d)));
+            (run-tied F (q .port) (q .asked .value) (q .limit) _ _ _ (tied-is F packet (tie d)));
         hop-left = λ d. omega (
           arith,
           says .hops,
           length-reverse (takenBy packet),
-          tied-short (q .limit) packet (tie d) (run-ends F (q .limit) (q .port) (q .asked .value)),
+          tied-short F (q .limit) packet (tie d) (run-ends F (q .limit) (q .port) (q .asked .value)),
         );
       }
 

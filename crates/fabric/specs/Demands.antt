@@ -1,4 +1,4 @@
--- The user's three demands, clauses D1 to D3e; proofs/Demands.antt proves them. They speak of forwarding, and of what a call returns and
+-- The user's three demands, clauses D1 to D3g; proofs/Demands.antt proves them. They speak of forwarding, and of what a call returns and
 -- leaves in the area lent: that a call ends, and returns and leaves what `callOf` says, is its contract. Assumes nothing.
 use mathlib.Core.Bool.{Bool, true, _&&_, cond}
 use mathlib.Core.List.{List, [], _∷_, _++_, reverse, List·Memᴰ}
@@ -18,15 +18,15 @@ use Rattle.questions.specs.Questions.{accepted, firstNo}
 use Rattle.questions.specs.declared.Read.the-variants.{No}
 use Rattle.file.specs.Accepted.{Accepted}
 use Rattle.forwarding.specs.Fabric.{Fabric, inPortOf, applied}
-use Rattle.forwarding.specs.Run.{Packet, left, dropped, lost, travelling, tied, takes, run, fateOf, entriesTaken}
-use Rattle.forwarding.specs.Choices.{Tie, CanEnd, Arrives}
+use Rattle.forwarding.specs.Run.{Packet, takes, run, fateOf, portOf, headerOf, entriesTaken}
+use Rattle.forwarding.specs.Choices.{Tie, CanEnd, IsListed}
 use Rattle.forwarding.specs.BackTrace.{backTraced}
 use Rattle.forwarding.specs.Trace.{Find, Event, find, units, finds, findsBy}
 use Rattle.forwarding.specs.Verdict.{foreignPacket, Leak, NoLeak}
 use Rattle.model.specs.Model.{fabricIn}
 use Rattle.calls.specs.Questions.{Query, answerWords}
-use Rattle.calls.specs.List.{traceAsked, listCall}
-use Rattle.calls.specs.Verdict.{verdictCall}
+use Rattle.calls.specs.List.{listAsked, listCall}
+use Rattle.calls.specs.Verdict.{traceAsked, verdictCall}
 use Rattle.calls.specs.Run.{runCall}
 use Rattle.fabric.specs.Calls.{questionsOf, wordsOf, callOf}
 use Rattle.fabric.specs.declared.Call.{Call}
@@ -109,7 +109,7 @@ pub record VerdictSays (f : Fabric) (q : Query) (o : Outcome) : Type 0 where
   pub reached-first : said o 0 ≡ 1 → FirstForeign f q (unitsSaid o) (portSaid o) (entriesSaid o) (headerSaid o)
   -- .. it is foreign and arrives, under the choice of the entries said, which took it too if its run is not tied; A12: unused words are 0
   pub reached-leak : said o 0 ≡ 1 → Leak f (q .limit) (q .port) (q .asked) (portSaid o) (entriesSaid o) (headerSaid o)
-  pub reached-run : said o 0 ≡ 1 → ¬ (fateOf (run f (q .limit) (portSaid o) (headerSaid o)) ≡ 4)
+  pub reached-run : said o 0 ≡ 1 → ¬ (fateOf f (run f (q .limit) (portSaid o) (headerSaid o)) ≡ 4)
       → entriesTaken (run f (q .limit) (portSaid o) (headerSaid o)) ≡ entriesSaid o
   pub reached-rest : said o 0 ≡ 1 → (k : ℕ) → 4 + headerWords + hopsSaid o ≤ k → k < answerWords → said o k ≡ 0
   -- D3d: isolated has the units of the whole back-trace, reached those before its find (reached-first), and the budget had them
@@ -157,36 +157,37 @@ findsRead (suc k) (w ∷ ws) =
 abbrev pub findsSaid : Outcome → Option (List Find)
 findsSaid o = findsRead (wordsWritten o) (wordsFrom (wordsWritten o) (o .area) 0)
 
-pub record ListSays (f : Fabric) (q : Query) (o : Outcome) : Type 0 where
-  -- D3c: the words written are the finds of the back-trace, in its order
-  pub listed : findsSaid o ≡ some (finds (traceAsked f q))
-  -- D3c: each pair is in just one find by the entries of each choice under which it arrives, so in one at least if it arrives ..
-  pub listed-once : (p : ℕ) (path : List ℕ) (h : Header) → f .isEdge p ≡ true → Words (f .words) h
-      → Arrives f (q .limit) (q .port) (q .asked) p path h → findsBy (f .words) p path h (finds (traceAsked f q)) ≡ 1
+-- D3c: the finds hold just the pairs of an edge port and a header that P names, each by the entries with which it names it
+pub record HoldJust (f : Fabric) (l : List Find) (P : ℕ → List ℕ → Header → Type 0) : Type 0 where
+  -- each pair is in just one find by the entries of each choice under which it is named, so in one at least if it is named ..
+  pub once : (p : ℕ) (path : List ℕ) (h : Header) → f .isEdge p ≡ true → Words (f .words) h
+      → P p path h → findsBy (f .words) p path h l ≡ 1
   -- .. and in none by any other entries
-  pub listed-else-none : (p : ℕ) (path : List ℕ) (h : Header) → f .isEdge p ≡ true → Words (f .words) h
-      → ¬ Arrives f (q .limit) (q .port) (q .asked) p path h → findsBy (f .words) p path h (finds (traceAsked f q)) ≡ 0
-  -- D3c: a find is a set of headers at an edge port, and each of its packets arrives under the choice of its entries
-  pub listed-edge : (d : Find) → List·Memᴰ d (finds (traceAsked f q)) → f .isEdge (d .port) ≡ true
-  pub listed-set : (d : Find) → List·Memᴰ d (finds (traceAsked f q)) → WellFormed (f .words) (d .set)
-  pub listed-arrive : (d : Find) → List·Memᴰ d (finds (traceAsked f q)) → (h : Header) → Words (f .words) h
-      → contains (f .words) (d .set) h ≡ true → Arrives f (q .limit) (q .port) (q .asked) (d .port) (d .path) h
-  -- D3d: the budget had the units of the whole back-trace
-  pub within-budget : units (traceAsked f q) ≤ q .budget
+  pub else-none : (p : ℕ) (path : List ℕ) (h : Header) → f .isEdge p ≡ true → Words (f .words) h
+      → ¬ P p path h → findsBy (f .words) p path h l ≡ 0
+  -- a find is a set of headers at an edge port, and each of its packets is named under the choice of its entries
+  pub edge-port : (d : Find) → List·Memᴰ d l → f .isEdge (d .port) ≡ true
+  pub well-formed : (d : Find) → List·Memᴰ d l → WellFormed (f .words) (d .set)
+  pub only : (d : Find) → List·Memᴰ d l → (h : Header) → Words (f .words) h
+      → contains (f .words) (d .set) h ≡ true → P (d .port) (d .path) h
+
+pub record ListSays (f : Fabric) (q : Query) (o : Outcome) : Type 0 where
+  -- D3c: the words written are the finds of the trace, in its order
+  pub listed : findsSaid o ≡ some (finds (listAsked f q))
+  -- D3c: they hold just the packets that arrive; D3g: for target 0, those that are lost
+  pub hold-just : HoldJust f (finds (listAsked f q)) (IsListed f (q .limit) (q .port) (q .asked))
+  -- D3d: the budget had the units of the whole trace
+  pub within-budget : units (listAsked f q) ≤ q .budget
 
 -- ---- the run
 
--- W9: a packet by the number of its fate; the entries are the latest first
-abbrev pub fated : ℕ → ℕ → Header → List ℕ → Packet
-fated zero = left
-fated (suc zero) = dropped
-fated (suc (suc zero)) = lost
-fated (suc (suc (suc zero))) = travelling
-fated (suc (suc (suc (suc n)))) = tied
-
--- A11: the words of a run have the places of a verdict's, but for the fate in word 0 and a 0 in word 1
-abbrev pub packetSaid : Outcome → Packet
-packetSaid o = fated (said o 0) (portSaid o) (headerSaid o) (reverse (entriesSaid o))
+-- A11: the words of a run have the places of a verdict's, but for the fate in word 0 and a 0 in word 1. They say what has become of a
+-- packet.
+pub record PacketSaid (f : Fabric) (o : Outcome) (s : Packet) : Type 0 where
+  pub fate : said o 0 ≡ fateOf f s
+  pub port : portSaid o ≡ portOf s
+  pub header : headerSaid o ≡ headerOf s
+  pub entries : entriesSaid o ≡ entriesTaken s
 
 pub record RunSays (f : Fabric) (q : Query) (o : Outcome) : Type 0 where
   -- A11: it fills 24 words; A12: unused words are 0
@@ -194,8 +195,8 @@ pub record RunSays (f : Fabric) (q : Query) (o : Outcome) : Type 0 where
   pub second : said o 1 ≡ 0
   pub rest : (k : ℕ) → 4 + headerWords + hopsSaid o ≤ k → k < answerWords → said o k ≡ 0
   -- D3f: a packet whose run is not tied can end as is said, and in no other way ..
-  pub can-end : ¬ (said o 0 ≡ 4) → CanEnd f (q .limit) (q .port) (q .asked .value) (packetSaid o)
-  pub only-end : ¬ (said o 0 ≡ 4) → (s : Packet) → CanEnd f (q .limit) (q .port) (q .asked .value) s → packetSaid o ≡ s
+  pub can-end : ¬ (said o 0 ≡ 4) → (s : Packet) × CanEnd f (q .limit) (q .port) (q .asked .value) s × PacketSaid f o s
+  pub only-end : ¬ (said o 0 ≡ 4) → (s : Packet) → CanEnd f (q .limit) (q .port) (q .asked .value) s → PacketSaid f o s
   -- .. and one whose run is tied can come where is said, with a hop left, and more than one entry may take it there
   pub tied-there : said o 0 ≡ 4 → Tie f (q .port) (q .asked .value) (portSaid o) (headerSaid o) (reverse (entriesSaid o))
   pub hop-left : said o 0 ≡ 4 → hopsSaid o < q .limit

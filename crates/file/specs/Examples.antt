@@ -40,13 +40,16 @@ abbrev examples : List Example
 examples =
     fabricF gives Fabric (shape 2 0 2)
     ∷ bytesOf (0x10010002 ∷ 0x50000000 ∷ []) gives Fabric (shape 0 0 0)
+    -- the same under OpenFlow 1.3, and with a version that differs in bit 26 alone under it
+    ∷ bytesOf (0x18010002 ∷ 0x50000000 ∷ []) gives Fabric (shape 0 0 0)
+    ∷ bytesOf (0x1c010002 ∷ 0x50000000 ∷ []) gives No 2 0
     ∷ replicate 4 0 gives No 1 0
     ∷ replicate 9 0 gives No 1 0
     ∷ bytesOf (0x10020002 ∷ 0x50000000 ∷ []) gives No 2 0
     ∷ bytesOf (0x10010003 ∷ 0x50000000 ∷ []) gives No 2 0
     ∷ bytesOf (0x20010002 ∷ 0x50000000 ∷ []) gives No 2 0
     -- the highest bit of the version, and of the word count
-    ∷ bytesOf (0x18010002 ∷ 0x50000000 ∷ []) gives No 2 0
+    ∷ bytesOf (0x14010002 ∷ 0x50000000 ∷ []) gives No 2 0
     ∷ bytesOf (0x10018002 ∷ 0x50000000 ∷ []) gives No 2 0
     -- no end; a kind that is none; an edge after a link; an edge that is cut short; zero bits of a link and of an entry; an end too early
     ∷ bytesOf (0x10010002 ∷ 0x30001002 ∷ []) gives No 3 2

@@ -48,7 +48,7 @@ module _ (f : Fabric) (sound : Sound f) (limit target : ℕ) (asked : Set) (edge
 
 -- if the run of a pair that arrives by some entries is not tied, those entries took it
 pub arrival-run : (f : Fabric) (limit target : ℕ) (asked : Set) (p : ℕ) (q : List ℕ) (h : Header)
-    → Arrives f limit target asked p q h → ¬ (fateOf (run f limit p h) ≡ 4) → entriesTaken (run f limit p h) ≡ q
+    → Arrives f limit target asked p q h → ¬ (fateOf f (run f limit p h) ≡ 4) → entriesTaken (run f limit p h) ≡ q
 unfolding EndsIn takenBy
 arrival-run f limit target asked p q h a n =
     let end : CanEnd f limit p h (left target (a .header) (reverse q)) =

@@ -25,7 +25,8 @@ use Rattle.forwarding.proofs.Parts.{part-well-formed}
 module _ (f : Fabric) (sound : Sound f) where
   -- ---- carving by several entries
 
-  survivors-well-formed : (bs : List ℕ) (p : Set) → WellFormed (f .words) p → (s : Set) → List·Memᴰ s (survivors f bs p) → WellFormed (f .words) s
+  pub survivors-well-formed : (bs : List ℕ) (p : Set) → WellFormed (f .words) p
+      → (s : Set) → List·Memᴰ s (survivors f bs p) → WellFormed (f .words) s
   unfolding survivors
   survivors-well-formed [] p wp s m = subst (WellFormed (f .words)) (sym (List·Memᴰ·eq-of-singleton m)) wp
   survivors-well-formed (b ∷ bs) p wp s m =
@@ -33,7 +34,7 @@ module _ (f : Fabric) (sound : Sound f) where
       survivors-well-formed bs (c .0) (part-well-formed (f .words) p _ wp (sound .match-well-formed b) (c .0) (c .1)) s (c .2)
 
   -- h is in just one of the parts left if it is in p and none of the entries holds it, and else in none
-  survivors-exact : (h : Header) (bs : List ℕ) (p : Set) → WellFormed (f .words) p
+  pub survivors-exact : (h : Header) (bs : List ℕ) (p : Set) → WellFormed (f .words) p
       → holders (f .words) (survivors f bs p) h ≡ one (contains (f .words) p h && noneOf (λ b. holds f b h) bs)
   unfolding survivors holders noneOf holds
   survivors-exact h [] p wp = rw and-true (omega arith)

@@ -2,7 +2,7 @@
 use mathlib.Core.Bool.{true, _&&_}
 use mathlib.Core.List.{List, [], reverse, List·Memᴰ, Memᴰ·of-map}
 use mathlib.Core.Path.{_≡_, ap, ap₂, subst}
-use Prim.Native.Nat.{ℕ}
+use Prim.Native.Nat.{ℕ, _<_}
 use native.Mathlib.Omega.{arith}
 use borrow.Author.Tests.{eqb-true, le-leb, leb-true}
 use lib.Dec.{eqb, leb}
@@ -12,7 +12,7 @@ use Rattle.headers.specs.Sets.{Header, Set, contains, WellFormed}
 use Rattle.headers.specs.Carving.{one}
 use Rattle.headers.proofs.Booleans.{and-fst, and-snd}
 use Rattle.forwarding.specs.Fabric.{Fabric, Sound}
-use Rattle.forwarding.specs.Trace.{Find, finds, trace, same}
+use Rattle.forwarding.specs.Trace.{Find, finds, trace, same, findsBy}
 use Rattle.forwarding.proofs.Lists.{member-total, total-member, one-true, same-equal}
 use Rattle.forwarding.proofs.Ways.{goes, CanGo}
 use Rattle.forwarding.proofs.WaysBack.{onto, waysBack, finds-stop, EdgeSet, find-edge-set}
@@ -26,6 +26,13 @@ pub record Found (n : ℕ) (l : List Find) (p : ℕ) (q : List ℕ) (h : Header)
   pub path : in-find .path ≡ q
   pub holds-it : contains n (in-find .set) h ≡ true
 
+-- a find counts for each header that it holds
+pub find-counts : (n : ℕ) (l : List Find) (d : Find) → List·Memᴰ d l → (h : Header) → contains n (d .set) h ≡ true
+    → 0 < findsBy n (d .port) (d .path) h l
+find-counts n l d m h e =
+    let here : one (holdsBy n (d .port) (d .path) h d) ≡ 1 = ap one (holds-own n h d e) in
+    omega (arith, member-total (λ c. one (holdsBy n (d .port) (d .path) h c)) l m, finds-by-total n (d .port) (d .path) h l)
+
 module _ (f : Fabric) (sound : Sound f) (limit target : ℕ) (asked : Set) (wa : WellFormed (f .words) asked) where
   -- every find is a well-formed set at an edge port
   pub edge-set : (d : Find) → List·Memᴰ d (finds (trace f limit target asked)) → EdgeSet f d
@@ -38,9 +45,7 @@ module _ (f : Fabric) (sound : Sound f) (limit target : ℕ) (asked : Set) (wa :
   pub find-sound : (d : Find) → List·Memᴰ d (finds (trace f limit target asked)) → (h : Header) → Words (f .words) h
       → contains (f .words) (d .set) h ≡ true → CanGo f limit target asked (d .port) (d .path) h
   find-sound d m h w e =
-      let here : one (holdsBy (f .words) (d .port) (d .path) h d) ≡ 1 = ap one (holds-own (f .words) h d e) in
-      let some = member-total (λ c. one (holdsBy (f .words) (d .port) (d .path) h c)) (finds (trace f limit target asked)) m in
-      let sum = finds-by-total (f .words) (d .port) (d .path) h (finds (trace f limit target asked)) in
+      let counted = find-counts (f .words) (finds (trace f limit target asked)) d m h e in
       let is = finds-by-way f sound (d .port) h (edge-set d m .edge) w limit target asked wa (d .path) in
       let c = one-true (leb (length (d .path)) limit && goes f (d .port) h (reverse (d .path)) target asked) (omega arith) in
       record { short = leb-true _ _ (and-fst _ _ c); goes-there = and-snd (leb (length (d .path)) limit) _ c }

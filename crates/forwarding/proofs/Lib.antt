@@ -13,6 +13,8 @@ pub mod RunFits
 pub mod RunWays
 pub mod Choices
 pub mod Arrivals
+pub mod Misses
+pub mod Losses
 pub mod Foreign
 pub mod Stops
 pub mod Verdicts

@@ -7,7 +7,7 @@ use Rattle.headers.specs.Bits.{Words}
 use Rattle.headers.specs.Sets.{Header}
 use Rattle.headers.proofs.SetBits.{first-of}
 use Rattle.forwarding.specs.Fabric.{Fabric, Sound, outPortOf, applied}
-use Rattle.forwarding.specs.Run.{Packet, left, dropped, lost, travelling, tied, takers, sentOut, forwarded, hop, run}
+use Rattle.forwarding.specs.Run.{Packet, left, dropped, missed, travelling, tied, takers, sentOut, forwarded, hop, run}
 use Rattle.forwarding.specs.Run.{portOf, headerOf, takenBy}
 use Rattle.forwarding.proofs.Lists.{All}
 use Rattle.forwarding.proofs.OneHop.{applied-fits}
@@ -23,7 +23,7 @@ module _ (f : Fabric) (sound : Sound f) (m : ℕ) (out : (e : ℕ) → outPortOf
   unfolding hop portOf headerOf takenBy takers
   hop-fits (left o h r) c = c
   hop-fits (dropped x h r) c = c
-  hop-fits (lost x h r) c = c
+  hop-fits (missed x h r) c = c
   hop-fits (tied x h r) c = c
   hop-fits (travelling x h r) c = go (takers f x h) refl
     where

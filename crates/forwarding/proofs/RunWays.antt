@@ -1,4 +1,4 @@
--- A packet arrives, by some entries, exactly if it can go that way to the target. Assumes nothing.
+-- A packet arrives, by some entries, exactly if it can go that way to the target, and is missed where no entry takes it.
 use mathlib.Core.Bool.{Bool, true, false, _&&_, cond, true≢false, false≢true}
 use mathlib.Core.List.{List, [], _∷_, reverse}
 use mathlib.Core.Path.{_≡_, refl, sym, ap, ap₂, _∙_, subst}
@@ -9,7 +9,7 @@ use lib.Dec.{eqb}
 use Rattle.headers.specs.Sets.{Header, Set}
 use Rattle.headers.proofs.Booleans.{and-fst, and-snd}
 use Rattle.forwarding.specs.Fabric.{Fabric, Sound, outPortOf, applied}
-use Rattle.forwarding.specs.Run.{Packet, left, dropped, lost, travelling, tied, takes, sentOut, hopBy}
+use Rattle.forwarding.specs.Run.{Packet, left, dropped, missed, travelling, tied, takes, takers, sentOut, hopBy}
 use Rattle.forwarding.specs.Choices.{CanBe, started, taken, untaken, Arrives}
 use Rattle.forwarding.proofs.Ways.{Place, nowhere, at, departs, toPort, onward, stands, sent, isAt, CanGo}
 
@@ -19,7 +19,7 @@ module _ (f : Fabric) (sound : Sound f) (p : ℕ) (h : Header) where
   unfoldable pub Went : Packet → Type 0
   Went (left o g r) = sent f p h r ≡ at o g
   Went (dropped x g r) = Unit {0}
-  Went (lost x g r) = Unit {0}
+  Went (missed x g r) = (stands f p h r ≡ at x g) × (takers f x g ≡ [])
   Went (travelling x g r) = stands f p h r ≡ at x g
   Went (tied x g r) = Unit {0}
 
@@ -36,7 +36,7 @@ module _ (f : Fabric) (sound : Sound f) (p : ℕ) (h : Header) where
       on zero z a b d = tt
       on (suc o) zero a b d = rw (d, took) (ap (λ (o : ℕ). at o (applied f e g)) a)
       on (suc o) (suc z) a b d = rw (d, took) (ap (λ (z : ℕ). toPort f z (applied f e g)) b)
-  went (untaken x g r c t) = tt
+  went (untaken x g r c t) = (went c, t)
 
   -- ---- and each way leads to what it can become
 

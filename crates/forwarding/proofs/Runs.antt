@@ -1,14 +1,23 @@
 -- A run: where it is tied, how many hops are made, and that a packet at its end stays there.
+use mathlib.Core.Bool.{Bool, true, false, cond}
 use mathlib.Core.List.{List, [], _∷_}
 use mathlib.Core.Path.{_≡_, sym, ap, _∙_}
-use Prim.Native.Nat.{ℕ, zero, suc, _≤_}
+use Prim.Native.Nat.{ℕ, zero, suc, _≤_, _<_}
 use native.Mathlib.Decide.{ℕ-discrete}
 use native.Mathlib.Omega.{arith}
 use Rattle.headers.specs.Sets.{Header}
 use Rattle.forwarding.specs.Fabric.{Fabric, outPortOf}
-use Rattle.forwarding.specs.Run.{Packet, left, dropped, lost, travelling, tied, takers, sentOut, forwarded, hop, run, takenBy}
-use Rattle.forwarding.specs.Run.{hopsMade}
+use Rattle.forwarding.specs.Run.{Packet, left, dropped, missed, travelling, tied, takers, sentOut, forwarded, hop, run, takenBy}
+use Rattle.forwarding.specs.Run.{missFate, hopsMade}
 use Rattle.forwarding.specs.Choices.{Several, EndsIn}
+
+-- a packet that no entry takes is dropped or lost, and so at its end
+pub miss-fate-low : (f : Fabric) → missFate f < 3
+miss-fate-low f = go (f .missDrops)
+  where
+    go : (b : Bool) → cond b 1 2 < 3
+    go true = omega arith
+    go false = omega arith
 
 module _ (f : Fabric) where
   -- ---- ties
@@ -24,7 +33,7 @@ module _ (f : Fabric) where
   unfolding EndsIn hop
   ends-hop k (left o h r) m = omega arith
   ends-hop k (dropped x h r) m = omega arith
-  ends-hop k (lost x h r) m = omega arith
+  ends-hop k (missed x h r) m = omega arith
   ends-hop k (tied x h r) m = omega arith
   ends-hop k (travelling x h r) m = go (takers f x h)
     where
@@ -51,7 +60,7 @@ module _ (f : Fabric) where
       go : (s : Packet) → EndsIn k s → hopsMade s ≤ k
       go (left o h r) m = m
       go (dropped x h r) m = m
-      go (lost x h r) m = omega arith
+      go (missed x h r) m = omega arith
       go (travelling x h r) m = omega arith
       go (tied x h r) m = omega arith
 

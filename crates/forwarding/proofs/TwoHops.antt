@@ -1,9 +1,9 @@
 -- The theorems at work on the example with a link: its fabric is sound, so their conditions can be met, and from its computed trace
 -- every header arrives. Assumes nothing.
-use mathlib.Core.Bool.{Bool, true, false, cond, true≢false}
+use mathlib.Core.Bool.{Bool, true, false, _||_, cond, true≢false}
 use mathlib.Core.List.{List, [], _∷_, List·Memᴰ·head}
 use mathlib.Core.Path.{_≡_, refl, sym, ap, _∙_}
-use Prim.Native.Nat.{ℕ, zero, suc, _^_}
+use Prim.Native.Nat.{ℕ, zero, suc, _^_, _<_}
 use native.Mathlib.Omega.{arith}
 use borrow.Author.Tests.{ltb-true, eq-eqb, eqb-true}
 use lib.Dec.{eqb, ltb}
@@ -42,11 +42,22 @@ sound = record {
   ends-once = λ y x. there-and-back 4 3 y x (eqb y 3) refl;
   edge-begins-none = λ x. inner 3 4 x (eqb x 3) refl refl;
   edge-ends-none = λ x. inner 4 3 x (eqb x 4) refl refl;
+  edge-below = λ x d. edge x (eqb x 1) (eqb x 2) refl refl d;
+  end-below = λ x y d. end x y (eqb x 4) refl d;
   match-well-formed = match;
   admitted-well-formed = λ x. all-wild-well-formed 4;
   rewrite-written = rewrite;
 }
   where
+    edge : (x : ℕ) (a b : Bool) → eqb x 1 ≡ a → eqb x 2 ≡ b → (a || b) ≡ true → x < 8
+    edge x true b p q d = omega (arith, eqb-true x 1 p)
+    edge x false true p q d = omega (arith, eqb-true x 2 q)
+    edge x false false p q d = absurd (true≢false (sym d))
+
+    end : (x y : ℕ) (a : Bool) → eqb x 4 ≡ a → cond a 3 0 ≡ suc y → x < 8
+    end x y true p d = omega (arith, eqb-true x 4 p)
+    end x y false p d = absurd (omega arith)
+
     match : (e : ℕ) → WellFormed 4 (twoHops .entry e .matches)
     match zero = all-wild-well-formed 4
     match (suc zero) = record { care = words-by _ refl refl; value = words-by _ refl refl; is-tidy = refl }

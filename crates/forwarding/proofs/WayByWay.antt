@@ -1,7 +1,7 @@
 -- The finds of the trace are exact, way by way: for each list of entries there is one find with that path that holds the packet if the
 -- packet can go that way, and else none. Nothing here asks that one entry alone takes a header. Assumes nothing.
 use mathlib.Core.Bool.{Bool, true, false, not, _&&_, cond, true≢false, and-false}
-use mathlib.Core.List.{List, [], _∷_, map, reverse, List·Memᴰ}
+use mathlib.Core.List.{List, [], _∷_, map, flatMap, reverse, List·Memᴰ}
 use mathlib.Core.Path.{_≡_, refl, sym, ap, ap₂, _∙_}
 use Prim.Native.Nat.{ℕ, zero, suc, _+_, _*_}
 use native.Mathlib.Nat.{mul-zero, mul-one}
@@ -16,13 +16,13 @@ use Rattle.headers.proofs.Booleans.{_==_, same-true, always}
 use Rattle.forwarding.specs.Fabric.{Fabric, Sound, inPortOf, outPortOf, entriesWhere, holds, applied}
 use Rattle.forwarding.specs.Run.{unbeaten, takes}
 use Rattle.forwarding.specs.BackTrace.{backTraced}
-use Rattle.forwarding.specs.Trace.{Find, finds, trace, same, findsBy}
+use Rattle.forwarding.specs.Trace.{Find, atInPort, stop, finds, trace, same, findsBy}
 use Rattle.forwarding.proofs.Lists.{total, total-times, total-zero, total-flatMap, total-map, total-only, one-and, holders-total}
 use Rattle.forwarding.proofs.Lists.{same-refl, same-reverse}
 use Rattle.forwarding.proofs.BackTraced.{back-traced-holders, back-traced-well-formed}
 use Rattle.forwarding.proofs.Ways.{Place, nowhere, at, departs, stands, sent, isAt, goes, FitsAt, departs-at, stands-fits}
 use Rattle.forwarding.proofs.Ways.{across-link}
-use Rattle.forwarding.proofs.WaysBack.{later, overLink, foundAt, foundBefore, waysBack, onto, finds-stop}
+use Rattle.forwarding.proofs.WaysBack.{later, overLink, foundAt, foundBefore, waysBack, onto, finds-stop, finds-part}
 
 -- a find at port p by the entries q that holds h
 abbrev pub holdsBy : ℕ → ℕ → List ℕ → Header → Find → Bool
@@ -38,6 +38,20 @@ pub finds-by-total : (n p : ℕ) (q : List ℕ) (h : Header) (l : List Find)
 unfolding findsBy total
 finds-by-total n p q h [] = refl
 finds-by-total n p q h (d ∷ l) = ap (λ (m : ℕ). one (holdsBy n p q h d) + m) (finds-by-total n p q h l)
+
+-- the finds of several lists are those of each together
+pub finds-by-each : {A : Type 0} (n p : ℕ) (q : List ℕ) (h : Header) (g : A → List Find) (l : List A)
+    → findsBy n p q h (flatMap g l) ≡ total (λ a. findsBy n p q h (g a)) l
+finds-by-each n p q h g l =
+    finds-by-total n p q h (flatMap g l)
+    ∙ total-flatMap (λ d. one (holdsBy n p q h d)) g l
+    ∙ sym (λ i. total (λ a. finds-by-total n p q h (g a) i) l)
+
+-- a header in one of the parts that are left, and where it stands
+pub factor : (a b c : Bool) → one (a && (b && c)) ≡ one c * one (a && b)
+factor a b c =
+    ap one (same-true (a && (b && c)) (c && (a && b)) (always (λ a b c i j. (a && (b && c)) == (c && (a && b))) tt a b c true true))
+    ∙ one-and c (a && b)
 
 module _ (f : Fabric) (sound : Sound f) (p : ℕ) (h : Header) (edge : f .isEdge p ≡ true) (w : Words (f .words) h) where
   -- how many finds at port p by the entries r hold h
@@ -103,11 +117,6 @@ module _ (f : Fabric) (sound : Sound f) (p : ℕ) (h : Header) (edge : f .isEdge
       partFinds : Set → ℕ
       partFinds s = found r (foundAt f (waysBack f k) x s)
 
-      factor : (a b c : Bool) → one (a && (b && c)) ≡ one c * one (a && b)
-      factor a b c =
-          ap one (same-true (a && (b && c)) (c && (a && b)) (always (λ a b c i j. (a && (b && c)) == (c && (a && b))) tt a b c true true))
-          ∙ one-and c (a && b)
-
       reorder : (a b c d i j : Bool) → (a && (b && ((c && d) && (i && j)))) ≡ (i && ((a && (j && c)) && (b && d)))
       reorder true b c d i j = same-true _ _ (always (λ b c d i j. (b && ((c && d) && (i && j))) == (i && ((j && c) && (b && d)))) tt b c d i j)
       reorder false b c d i j = sym (and-false i)
@@ -164,14 +173,30 @@ module _ (f : Fabric) (sound : Sound f) (p : ℕ) (h : Header) (edge : f .isEdge
       before : ℕ → List Find
       before = foundBefore f (waysBack f k) t
 
+  -- a list of finds with paths turned round, by the entries q in travelling order
+  turned : (l : List Find) (q : List ℕ) → findsBy (f .words) p q h (map (onto []) l) ≡ found (reverse q) l
+  turned l q =
+      finds-by-total (f .words) p q h (map (onto []) l)
+      ∙ total-map _ (onto []) l
+      ∙ (λ i. total (λ d. one (eqb p (d .port) && (same-reverse (d .path) q i && contains (f .words) (d .set) h))) l)
+
+  -- the finds of a part at an in-port by the entries q: one if the packet can come to stand there that way with a header in the part, and
+  -- else none
+  pub part-by-way : (k x : ℕ) (s : Set) → WellFormed (f .words) s → (q : List ℕ)
+      → findsBy (f .words) p q h (finds (atInPort f (stop f k) x [] s))
+      ≡ one (leb (length q) k && isAt f (stands f p h (reverse q)) x s)
+  part-by-way k x s ws q =
+      ap (findsBy (f .words) p q h) (finds-part f k x [] s)
+      ∙ turned (foundAt f (waysBack f k) x s) q
+      ∙ part-exact k (exact k) (reverse q) x s ws
+      ∙ rw length-reverse
+
   -- the finds of the trace by the entries q, in travelling order: one if the packet can go that way within the limit, and else none
   pub finds-by-way : (limit target : ℕ) (asked : Set) → WellFormed (f .words) asked → (q : List ℕ)
       → findsBy (f .words) p q h (finds (trace f limit target asked)) ≡ one (leb (length q) limit && goes f p h (reverse q) target asked)
   unfolding Exactly
   finds-by-way limit target asked wa q =
-      finds-by-total (f .words) p q h (finds (trace f limit target asked))
-      ∙ ap (found q) (finds-stop f limit target asked [])
-      ∙ total-map _ (onto []) (waysBack f limit target asked)
-      ∙ (λ i. total (λ d. one (eqb p (d .port) && (same-reverse (d .path) q i && contains (f .words) (d .set) h))) (waysBack f limit target asked))
+      ap (findsBy (f .words) p q h) (finds-stop f limit target asked [])
+      ∙ turned (waysBack f limit target asked) q
       ∙ exact limit (reverse q) target asked wa
       ∙ rw length-reverse

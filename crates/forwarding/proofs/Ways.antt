@@ -115,6 +115,10 @@ module _ (f : Fabric) (p : ℕ) (h : Header) where
   somewhere nowhere o t e = absurd (false≢true e)
   somewhere (at x g) o t e = tt
 
+  -- also of one that ends where the packet stands
+  pub stood-entries : (q : List ℕ) {x : ℕ} {g : Header} → stands f p h (reverse q) ≡ at x g → All (λ e. e < f .entries) q
+  stood-entries q d = all-reverse _ q (stands-entries (reverse q) (rw d tt))
+
   pub way-entries : {limit target : ℕ} {asked : Set} {q : List ℕ} → CanGo f limit target asked p q h → All (λ e. e < f .entries) q
   way-entries {target = target} {asked = asked} {q = q} c =
       all-reverse _ q (sent-entries (reverse q) (somewhere (sent f p h (reverse q)) target asked (c .goes-there)))

@@ -22,14 +22,15 @@ finds-append [] b = refl
 finds-append (unit ∷ a) b = finds-append a b
 finds-append (find d ∷ a) b = ap (λ (l : List Find). d ∷ l) (finds-append a b)
 
-finds-flatMap : {A : Type 0} (g : A → List Event) (l : List A) → finds (flatMap g l) ≡ flatMap (λ a. finds (g a)) l
+pub finds-flatMap : {A : Type 0} (g : A → List Event) (l : List A) → finds (flatMap g l) ≡ flatMap (λ a. finds (g a)) l
 unfolding finds flatMap
 finds-flatMap g [] = refl
 finds-flatMap g (a ∷ l) = finds-append (g a) (flatMap g l) ∙ ap (λ (m : List Find). finds (g a) ++ m) (finds-flatMap g l)
 
 module _ (f : Fabric) where
   -- carving hands on just the parts that survive, in their order
-  finds-carved : (next : Set → List Event) (bs : List ℕ) (p : Set) → finds (carved f next bs p) ≡ flatMap (λ s. finds (next s)) (survivors f bs p)
+  pub finds-carved : (next : Set → List Event) (bs : List ℕ) (p : Set)
+      → finds (carved f next bs p) ≡ flatMap (λ s. finds (next s)) (survivors f bs p)
   unfolding carved survivors finds flatMap
   finds-carved next [] p = sym (append-nil (finds (next p)))
   finds-carved next (b ∷ bs) p =
@@ -108,6 +109,11 @@ module _ (f : Fabric) where
           ∙ sym (map-flatMap (onto (e ∷ path)) (foundAt f (waysBack f k) (inPortOf f e)) (backTraced f e t))
           ∙ sym (map-map (onto path) (later f e) (foundBefore f (waysBack f k) t e))
 
+  -- the finds of a part at an in-port
+  pub finds-part : (k x : ℕ) (path : List ℕ) (s : Set)
+      → finds (atInPort f (stop f k) x path s) ≡ map (onto path) (foundAt f (waysBack f k) x s)
+  finds-part k = finds-at k (finds-stop k)
+
 -- ---- what every find is
 
 -- a well-formed set at an edge port
@@ -120,7 +126,7 @@ module _ (f : Fabric) (sound : Sound f) where
   abbrev EdgeSets : ℕ → Type 0
   EdgeSets k = (o : ℕ) (t : Set) → WellFormed (f .words) t → (d : Find) → List·Memᴰ d (waysBack f k o t) → EdgeSet f d
 
-  found-edge-set : (k : ℕ) → EdgeSets k → (x : ℕ) (s : Set) → WellFormed (f .words) s
+  pub found-edge-set : (k : ℕ) → EdgeSets k → (x : ℕ) (s : Set) → WellFormed (f .words) s
       → (d : Find) → List·Memᴰ d (foundAt f (waysBack f k) x s) → EdgeSet f d
   unfolding foundAt
   found-edge-set k ih x s ws d m = go (f .isEdge x) (f .linkFrom x) refl m

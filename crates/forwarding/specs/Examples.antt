@@ -1,5 +1,5 @@
 -- Document 01's examples on fabric F and on single entries, and where the published method misleads; each computed. Assumes nothing.
-use mathlib.Core.Bool.{true, _||_, cond}
+use mathlib.Core.Bool.{Bool, true, false, _||_, cond}
 use mathlib.Core.List.{List, [], _∷_, map, flatMap}
 use mathlib.Core.Option.{some, none, bind, Option·elim, orElse}
 use mathlib.Core.Path.{_≡_, refl}
@@ -12,10 +12,10 @@ use Rattle.headers.specs.Actions.{Act, noAction, unacted}
 use Rattle.headers.specs.declared.Transfer.the-variants.{Keep, Copy, Swap}
 use Rattle.headers.specs.Carving.{partsAt, parts, carve, holders}
 use Rattle.forwarding.specs.Fabric.{Entry, Fabric, holds, beats, applied, undoes}
-use Rattle.forwarding.specs.Run.{Packet, left, dropped, lost, travelling, tied, unbeaten, takes, takers, hop, run}
+use Rattle.forwarding.specs.Run.{Packet, left, dropped, missed, travelling, tied, unbeaten, takes, takers, hop, run}
 use Rattle.forwarding.specs.Run.{fateOf, portOf, headerOf, takenBy, hopsMade}
 use Rattle.forwarding.specs.BackTrace.{back, beaters, survivors, backTraced}
-use Rattle.forwarding.specs.Trace.{unit, find, carved, atInPort, takenUp, stop, trace}
+use Rattle.forwarding.specs.Trace.{unit, find, carved, atInPort, takenUp, stop, trace, lostAt, lostTrace}
 use Rattle.forwarding.specs.Verdict.{isolated, reached, foreignPacket, verdict, verdictOn, endsWithin, verdictWithin}
 
 abbrev pub header : ℕ → ℕ → ℕ → ℕ → Header
@@ -40,9 +40,10 @@ entryOf priority inPort outPort matches action = record {
   action = action;
 }
 
--- edge port 1 of group 7 and edge port 2 of group 9, both with an all-wild admitted set, one link and these entries
-abbrev pub linked : ℕ → ℕ → List Entry → Fabric
-linked from to l = record {
+-- edge port 1 of group 7 and edge port 2 of group 9, both with an all-wild admitted set, one link, these entries, and what becomes of a
+-- packet that no entry takes
+abbrev pub linkedUnder : Bool → ℕ → ℕ → List Entry → Fabric
+linkedUnder drops from to l = record {
   words = 4;
   entries = length l;
   entry = λ e. getD l e (entryOf 0 0 0 (allWild 4) (noAction 4));
@@ -51,7 +52,13 @@ linked from to l = record {
   admitted = λ x. allWild 4;
   linkTo = λ x. cond (eqb x from) to 0;
   linkFrom = λ x. cond (eqb x to) from 0;
+  ports = 8;
+  missDrops = drops;
 }
+
+-- under OpenFlow 1.0
+abbrev pub linked : ℕ → ℕ → List Entry → Fabric
+linked from to l = linkedUnder false from to l
 
 -- the same with no link
 abbrev fabric : List Entry → Fabric
@@ -71,7 +78,7 @@ unfolding computingRun bind Option·elim flatMap undoes back beaters survivors b
 computingBack = tt
 
 computing : Unit {0}
-unfolding computingBack carved atInPort takenUp stop orElse foreignPacket verdict endsWithin verdictWithin
+unfolding computingBack carved atInPort takenUp stop lostAt lostTrace orElse foreignPacket verdict endsWithin verdictWithin
 computing = tt
 
 -- ---- fabric F
@@ -160,7 +167,7 @@ swap-run : run swapping 2 1 (header 7 9 0 0) ≡ left 2 (header 9 7 0 0) (1 ∷ 
 unfolding computing
 swap-run = refl
 
-unswapped-lost : run swapping 2 1 (header 9 7 0 0) ≡ lost 4 (header 7 9 0 0) (0 ∷ [])
+unswapped-lost : run swapping 2 1 (header 9 7 0 0) ≡ missed 4 (header 7 9 0 0) (0 ∷ [])
 unfolding computing
 unswapped-lost = refl
 
@@ -256,6 +263,78 @@ past-the-limit : run tieBehind 2 1 (header 0 0 0 0) ≡ tied 4 (header 0 0 0 0) 
 unfolding computing
 past-the-limit = refl
 
+-- ---- packets that no entry takes
+
+-- entry 0 writes tp_dst 5 and sends from edge port 1 over the link, behind which entry 1 takes only tp_dst 80; none stands at edge port 2
+abbrev losing : Bool → Fabric
+losing drops = linkedUnder drops 3 4 (entryOf 10 1 3 (allWild 4) (setTpDst 5) ∷ entryOf 10 4 2 (tpDst 80) (noAction 4) ∷ [])
+
+-- W7, W9: under OpenFlow 1.0 it is lost, under 1.3 dropped, at its in-port and with no further hop
+missed-run : run (losing false) 2 1 (header 0 0 22 0) ≡ missed 4 (header 0 0 5 0) (0 ∷ [])
+unfolding computing
+missed-run = refl
+
+abbrev fateUnder : Bool → ℕ
+fateUnder drops = fateOf (losing drops) (run (losing drops) 2 1 (header 0 0 22 0))
+
+miss-fates : map fateUnder (false ∷ true ∷ []) ≡ 2 ∷ 1 ∷ []
+unfolding computing
+miss-fates = refl
+
+-- T18: at port 1 entry 0 leaves nothing, at port 2 none takes anything, and what is lost at the link's end with tp_dst 5 had any tp_dst
+-- at its start
+lost-back : lostTrace (losing false) 2 (tpDst 5)
+    ≡ unit
+    ∷ find (record { port = 2; path = []; set = tpDst 5 })
+    ∷ unit
+    ∷ unit
+    ∷ find (record { port = 1; path = 0 ∷ []; set = allWild 4 })
+    ∷ []
+unfolding computing
+lost-back = refl
+
+-- with limit 1 the link's end is carved all the same, and no stop follows
+lost-at-limit-1 : lostTrace (losing false) 1 (tpDst 5) ≡ unit ∷ find (record { port = 2; path = []; set = tpDst 5 }) ∷ unit ∷ []
+unfolding computing
+lost-at-limit-1 = refl
+
+-- behind a tie, by one choice: entry 1 sends over the link, behind which no entry stands, and its equal 0 to edge port 2
+abbrev losingByChoice : Fabric
+losingByChoice = linked 3 4 (entryOf 10 1 2 (allWild 4) (noAction 4) ∷ entryOf 10 1 3 (allWild 4) (noAction 4) ∷ [])
+
+lost-by-choice : lostTrace losingByChoice 2 (tpDst 80)
+    ≡ unit
+    ∷ find (record { port = 2; path = []; set = tpDst 80 })
+    ∷ unit
+    ∷ find (record { port = 1; path = 1 ∷ []; set = tpDst 80 })
+    ∷ []
+unfolding computing
+lost-by-choice = refl
+
+-- T17: edge ports 1 and 5, and the link's end 4 between them
+abbrev endBetween : Fabric
+endBetween = record {
+  words = 4;
+  entries = 1;
+  entry = λ e. entryOf 10 1 3 (tpDst 22) (noAction 4);
+  isEdge = λ x. eqb x 1 || eqb x 5;
+  group = λ x. 7;
+  admitted = λ x. allWild 4;
+  linkTo = λ x. cond (eqb x 3) 4 0;
+  linkFrom = λ x. cond (eqb x 4) 3 0;
+  ports = 8;
+  missDrops = false;
+}
+
+ports-rise : lostTrace endBetween 2 (tpDst 22)
+    ≡ unit
+    ∷ unit
+    ∷ find (record { port = 1; path = 0 ∷ []; set = tpDst 22 })
+    ∷ find (record { port = 5; path = []; set = tpDst 22 })
+    ∷ []
+unfolding computing
+ports-rise = refl
+
 -- ---- orders
 
 -- T5, T7: entry 2 is carved by its two beaters in file order, though entry 1 has the higher priority, and a part's whole descent comes
@@ -303,6 +382,8 @@ ownGroup = record {
   admitted = λ x. set (header 0 0 3 0) (header 0 0 1 0);
   linkTo = λ x. 0;
   linkFrom = λ x. 0;
+  ports = 8;
+  missDrops = false;
 }
 
 first-part : verdictOn ownGroup 2 1 (allWild 4) ≡ reached 1 1 (0 ∷ []) (header 0 0 2 0)
@@ -321,7 +402,7 @@ packets =
     ∷ run tieBehind 2 1 (header 0 0 22 0)
     ∷ []
 
-fates : map fateOf packets ≡ 0 ∷ 1 ∷ 2 ∷ 3 ∷ 4 ∷ []
+fates : map (fateOf F) packets ≡ 0 ∷ 1 ∷ 2 ∷ 3 ∷ 4 ∷ []
 unfolding computing
 fates = refl
 

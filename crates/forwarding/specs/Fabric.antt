@@ -4,7 +4,7 @@ use mathlib.Core.Bool.{Bool, true, false, _&&_}
 use mathlib.Core.List.{List}
 use mathlib.Core.Option.{Option}
 use mathlib.Core.Path.{_≡_}
-use Prim.Native.Nat.{ℕ, suc, _≤_}
+use Prim.Native.Nat.{ℕ, suc, _≤_, _<_}
 use lib.Dec.{eqb, ltb}
 use Rattle.headers.specs.Bits.{positions, those}
 use Rattle.headers.specs.Sets.{Header, Set, contains, WellFormed, Written}
@@ -32,6 +32,10 @@ pub record Fabric : Type 0 where
   -- the to-port of the link from a port, and the from-port of the link that ends at a port; 0 where there is none
   pub linkTo : ℕ → ℕ
   pub linkFrom : ℕ → ℕ
+  -- F9: ports are below this number
+  pub ports : ℕ
+  -- F16: OpenFlow 1.3, under which a packet that no entry takes is dropped
+  pub missDrops : Bool
 
 -- W1: of two entries at one in-port, that of priority p outranks that of priority q; where they stand in the file plays no part
 abbrev pub outranks : ℕ → ℕ → Bool
@@ -82,6 +86,9 @@ pub record Sound (f : Fabric) : Type 0 where
   -- 6, "Does a link avoid edge ports"
   pub edge-begins-none : (x : ℕ) → f .isEdge x ≡ true → f .linkTo x ≡ 0
   pub edge-ends-none : (x : ℕ) → f .isEdge x ≡ true → f .linkFrom x ≡ 0
+  -- 4, "Are ports in range": where a packet can stand is a port
+  pub edge-below : (x : ℕ) → f .isEdge x ≡ true → x < f .ports
+  pub end-below : (x y : ℕ) → f .linkFrom x ≡ suc y → x < f .ports
   -- 5, "Are value bits zero outside care"; a number past the last entry reads as an all-wild one
   pub match-well-formed : (e : ℕ) → WellFormed (f .words) (f .entry e .matches)
   pub admitted-well-formed : (x : ℕ) → WellFormed (f .words) (f .admitted x)

@@ -1,6 +1,6 @@
 -- The forwarding rule and the run of one packet: W2 to W13 and W16. What a packet can become under any choice is in Choices.antt.
 -- A packet may make any number of hops; the limit of 16 is a question that the calls ask.
-use mathlib.Core.Bool.{Bool, not, _&&_}
+use mathlib.Core.Bool.{Bool, not, _&&_, cond}
 use mathlib.Core.List.{List, [], _∷_, reverse}
 use Prim.Native.Nat.{ℕ, zero, suc}
 use lib.Dec.{eqb, ltb}
@@ -10,9 +10,10 @@ use Rattle.headers.specs.Sets.{Header}
 use Rattle.forwarding.specs.Fabric.{Fabric, inPortOf, outPortOf, entriesWhere, holds, beats, applied}
 
 -- A packet at its end or under way: its port, its header then, and the entries that took it, the latest first.
--- W11's port: left, the out-port; dropped, lost or tied, the in-port; travelling, the next in-port. Only a run is ever tied (W16).
+-- W11's port: left, the out-port; dropped by an entry, missed by all or tied, the in-port; travelling, the next in-port. Only a run is ever
+-- tied (W16).
 pub data Packet : Type 0 where
-  left dropped lost travelling tied : ℕ → Header → List ℕ → Packet
+  left dropped missed travelling tied : ℕ → Header → List ℕ → Packet
 
 module _ (f : Fabric) where
   -- no entry whose match holds the header beats e
@@ -42,7 +43,7 @@ module _ (f : Fabric) where
 
   -- by the entries that may take it: none, W7; one, W3; more, W16
   abbrev pub forwarded : ℕ → Header → List ℕ → List ℕ → Packet
-  forwarded x h r [] = lost x h r
+  forwarded x h r [] = missed x h r
   forwarded x h r (e ∷ []) = hopBy e x h r
   forwarded x h r (e ∷ d ∷ l) = tied x h r
 
@@ -50,7 +51,7 @@ module _ (f : Fabric) where
   hop (travelling x h r) = forwarded x h r (takers x h)
   hop (left o h r) = left o h r
   hop (dropped x h r) = dropped x h r
-  hop (lost x h r) = lost x h r
+  hop (missed x h r) = missed x h r
   hop (tied x h r) = tied x h r
 
   -- a packet with header h, started at port p, after k hops or at its end before
@@ -60,18 +61,22 @@ module _ (f : Fabric) where
 
 -- ---- what a run answers
 
+-- W7: what befalls a packet that no entry takes; under OpenFlow 1.3 it is dropped, under 1.0 lost
+abbrev pub missFate : Fabric → ℕ
+missFate f = cond (f .missDrops) 1 2
+
 -- W9
-unfoldable pub fateOf : Packet → ℕ
-fateOf (left o h r) = 0
-fateOf (dropped x h r) = 1
-fateOf (lost x h r) = 2
-fateOf (travelling x h r) = 3
-fateOf (tied x h r) = 4
+unfoldable pub fateOf : Fabric → Packet → ℕ
+fateOf f (left o h r) = 0
+fateOf f (dropped x h r) = 1
+fateOf f (missed x h r) = missFate f
+fateOf f (travelling x h r) = 3
+fateOf f (tied x h r) = 4
 
 unfoldable pub portOf : Packet → ℕ
 portOf (left o h r) = o
 portOf (dropped x h r) = x
-portOf (lost x h r) = x
+portOf (missed x h r) = x
 portOf (travelling x h r) = x
 portOf (tied x h r) = x
 
@@ -79,7 +84,7 @@ portOf (tied x h r) = x
 unfoldable pub headerOf : Packet → Header
 headerOf (left o h r) = h
 headerOf (dropped x h r) = h
-headerOf (lost x h r) = h
+headerOf (missed x h r) = h
 headerOf (travelling x h r) = h
 headerOf (tied x h r) = h
 
@@ -87,7 +92,7 @@ headerOf (tied x h r) = h
 unfoldable pub takenBy : Packet → List ℕ
 takenBy (left o h r) = r
 takenBy (dropped x h r) = r
-takenBy (lost x h r) = r
+takenBy (missed x h r) = r
 takenBy (travelling x h r) = r
 takenBy (tied x h r) = r
 

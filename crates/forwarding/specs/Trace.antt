@@ -1,9 +1,10 @@
--- The back-trace as a list of events, which knows no budget: document 01, "The back-trace and its count". Assumes nothing.
-use mathlib.Core.Bool.{Bool, true, false, _&&_, cond}
+-- The back-trace as a list of events, which knows no budget: T1 to T12, and T17 and T18 for the packets that are lost.
+use mathlib.Core.Bool.{Bool, true, false, _&&_, _||_, cond}
 use mathlib.Core.List.{List, [], _∷_, flatMap}
 use mathlib.Core.Option.{Option·elim}
 use Prim.Native.Nat.{ℕ, zero, suc, _+_}
-use lib.Dec.{eqb}
+use lib.Dec.{eqb, ltb}
+use Rattle.headers.specs.Bits.{positions, those}
 use Rattle.headers.specs.Sets.{Header, Set, contains}
 use Rattle.headers.specs.Carving.{carve, one}
 use Rattle.forwarding.specs.Fabric.{Fabric, inPortOf, outPortOf, entriesWhere}
@@ -51,6 +52,34 @@ module _ (f : Fabric) where
   -- "The first stop is the target with the limit."
   abbrev pub trace : ℕ → ℕ → Set → List Event
   trace limit target asked = stop limit target asked []
+
+  -- ---- the packets that are lost
+
+  -- T17: where a packet can stand, an edge port or a link's end
+  abbrev pub isInPort : ℕ → Bool
+  isInPort x = f .isEdge x || ltb 0 (f .linkFrom x)
+
+  -- in rising number
+  abbrev pub inPorts : List ℕ
+  inPorts = those isInPort (positions (f .ports) 0)
+
+  -- all entries of in-port x, in file order
+  abbrev pub entriesIn : ℕ → List ℕ
+  entriesIn x = entriesWhere f (λ e. eqb (inPortOf f e) x)
+
+  -- T18: what the entries of in-port x leave of the asked set; no entry takes that there, and no entry is on its way yet
+  unfoldable pub lostAt : (ℕ → Set → List ℕ → List Event) → Set → ℕ → List Event
+  lostAt next asked x = carved (atInPort next x []) (entriesIn x) asked
+
+  -- T18: at each in-port; a packet that is lost has made fewer hops than the limit
+  unfoldable pub lostTrace : ℕ → Set → List Event
+  lostTrace zero asked = []
+  lostTrace (suc hops) asked = flatMap (lostAt (stop hops) asked) inPorts
+
+  -- V8: what a list goes through: target 0, which is no port, asks for the packets that are lost
+  abbrev pub listTrace : ℕ → ℕ → Set → List Event
+  listTrace limit zero asked = lostTrace limit asked
+  listTrace limit (suc target) asked = trace limit (suc target) asked
 
 -- "A call's count is the units that would be made, were there no budget"
 unfoldable pub units : List Event → ℕ

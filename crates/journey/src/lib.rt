@@ -6,11 +6,22 @@ ghost use lib.ListN.{length};
 ghost use Rattle.answer.specs.Answer.{writtenAt};
 ghost use Rattle.questions.specs.Tables.{StartTable};
 ghost use Rattle.file.specs.Accepted.{Accepted};
-ghost use Rattle.forwarding.specs.Run.{run};
+ghost use Rattle.forwarding.specs.Run.{missFate, run};
 ghost use Rattle.model.specs.Model.{fabricIn};
 ghost use Rattle.journey.specs.Journey.{journeyOf, journeyWords, Hopped};
 
-// A packet: its fate (0 left, 1 dropped, 2 lost, 3 travelling, 4 tied), port, header and hops made, and the entries that took it.
+// The fates.
+const LEFT: u32 = 0;
+
+const DROPPED: u32 = 1;
+
+const LOST: u32 = 2;
+
+const TRAVELLING: u32 = 3;
+
+const TIED: u32 = 4;
+
+// A packet: its fate, port, header and hops made, and the entries that took it.
 pub struct Journey {
     pub fate: u32,
     pub port: u32,
@@ -39,6 +50,17 @@ fn link_after(file: &[u8], shape: Shape, starts: &[u16; 4096], o: u32) -> u32
     file::link_to(file, shape, k - 1)
 }
 
+// The fate of a packet that no entry takes.
+fn miss_fate(file: &[u8], shape: Shape) -> u32
+    requires { ⌜ Accepted (now file) shape ⌝ }
+    ensures { λ r. ⌜ r ≡ missFate (fabricIn (now (file .entry))) ⌝ }
+{
+    if model::miss_drops(file, shape) {
+        return DROPPED;
+    }
+    LOST
+}
+
 // One hop, if the packet is still travelling.
 fn hop(file: &[u8], shape: Shape, starts: &[u16; 4096], j: Journey) -> Journey
     requires { ⌜ Accepted (now file) shape ⌝ }
@@ -46,7 +68,7 @@ fn hop(file: &[u8], shape: Shape, starts: &[u16; 4096], j: Journey) -> Journey
     requires { ⌜ j .hops < 16 ⌝ }
     ensures { λ r. ⌜ Hopped (fabricIn (now (file .entry))) j r ⌝ }
 {
-    if j.fate != 3 {
+    if j.fate != TRAVELLING {
         return j;
     }
     let port = j.port;
@@ -58,7 +80,7 @@ fn hop(file: &[u8], shape: Shape, starts: &[u16; 4096], j: Journey) -> Journey
     let tied = best.tied;
     if e == shape.entries {
         return Journey {
-            fate: 2,
+            fate: miss_fate(file, shape),
             port,
             hops: n,
             header,
@@ -67,7 +89,7 @@ fn hop(file: &[u8], shape: Shape, starts: &[u16; 4096], j: Journey) -> Journey
     }
     if tied {
         return Journey {
-            fate: 4,
+            fate: TIED,
             port,
             hops: n,
             header,
@@ -80,7 +102,7 @@ fn hop(file: &[u8], shape: Shape, starts: &[u16; 4096], j: Journey) -> Journey
     let after = records::action(x).apply(header);
     if o == 0 {
         return Journey {
-            fate: 1,
+            fate: DROPPED,
             port,
             hops: n + 1,
             header: after,
@@ -90,7 +112,7 @@ fn hop(file: &[u8], shape: Shape, starts: &[u16; 4096], j: Journey) -> Journey
     let z = link_after(file, shape, starts, o);
     if z == 0 {
         return Journey {
-            fate: 0,
+            fate: LEFT,
             port: o,
             hops: n + 1,
             header: after,
@@ -98,7 +120,7 @@ fn hop(file: &[u8], shape: Shape, starts: &[u16; 4096], j: Journey) -> Journey
         };
     }
     Journey {
-        fate: 3,
+        fate: TRAVELLING,
         port: z,
         hops: n + 1,
         header: after,
@@ -118,10 +140,10 @@ pub fn travel(
     requires { ⌜ Accepted (now file) shape ⌝ }
     requires { ⌜ StartTable (now file) (shape .edges) (shape .links) (now starts) ⌝ }
     requires { ⌜ limit ≤ 16 ⌝ }
-    ensures { λ r. ⌜ r ≡ journeyOf (run (fabricIn (now (file .entry))) limit start header) ⌝ }
+    ensures { λ r. ⌜ r ≡ journeyOf (fabricIn (now (file .entry))) (run (fabricIn (now (file .entry))) limit start header) ⌝ }
 {
     let mut j = Journey {
-        fate: 3,
+        fate: TRAVELLING,
         port: start,
         hops: 0,
         header,

@@ -4,8 +4,9 @@ use mathlib.Core.List.{List}
 use mathlib.Core.Path.{_≡_, refl, ap, _∙_}
 use Prim.Native.Nat.{ℕ, zero, suc, _<_}
 use native.Mathlib.Omega.{arith}
-use lib.Dec.{ltb}
+use lib.Dec.{ltb, eqb}
 use borrow.Author.Tests.{lt-ltb}
+use Rattle.records.specs.Words.{wordAt, choiceOf}
 use Rattle.records.specs.Records.{edgeGroup, edgeAdmitted, portOfEdge, edgeBytes, entryBytes, recent}
 use Rattle.records.specs.declared.Shape.{Shape}
 use Rattle.questions.specs.Questions.{pick}
@@ -22,6 +23,11 @@ shape-is f s ok = ap shapeRead ok
 pub fabric-is : (f : List ℕ) (s : Shape) → Accepted f s → fabricIn f ≡ fabricOf f s
 unfolding fabricIn
 fabric-is f s ok = ap (fabricOf f) (shape-is f s ok)
+
+-- whether a packet that no entry takes is dropped is one bit of the file
+pub miss-is : (f : List ℕ) → fabricIn f .missDrops ≡ eqb (choiceOf (wordAt f 0)) 1
+unfolding fabricIn fabricOf
+miss-is f = refl
 
 module _ (f : List ℕ) (s : Shape) where
   -- an entry reads as its own bytes say

@@ -70,6 +70,8 @@ module _ (f : List ℕ) (s : Shape) (ok : Accepted f s) where
         let d = edge-there f s x e in
         across-none tos froms (s .links) (froms-differ f s ok) (link-to-low f s ok) x
         (λ j l q. no-edge-at-to f s ok (d .number-then) j (d .below) l (d .port-is ∙ sym q));
+    edge-below = λ x e. omega (arith, edge-there f s x e .port-is);
+    end-below = λ x y. end x y (number (recent tos (s .links)) x) refl;
     match-well-formed = λ e. by-entry (λ x. WellFormed headerWords (x .matches)) e (λ l. entry-of f s ok e l .matches) (all-wild-well-formed headerWords);
     admitted-well-formed = λ x. admitted x (number (recent (portOfEdge f) (s .edges)) x) refl;
     rewrite-written = λ e.
@@ -80,6 +82,10 @@ module _ (f : List ℕ) (s : Shape) (ok : Accepted f s) where
       no-edge : (b : Bool) → fabricOf f s .isEdge 0 ≡ b → b ≡ false
       no-edge true e = let d = edge-there f s 0 e in let h = edge-port-low f s ok (d .number-then) (d .below) in absurd (omega (arith, d .port-is))
       no-edge false e = refl
+
+      end : (x y m : ℕ) → number (recent tos (s .links)) x ≡ m → under 0 froms m ≡ suc y → x < 4096
+      end x y zero d e = absurd (omega arith)
+      end x y (suc i) d e = omega (arith, number-has tos (s .links) x i d .1)
 
       by-entry : (P : Forwarding.Entry → Type 0) (e : ℕ) → (e < s .entries → P (entryFrom (entryBytes f s e))) → P noEntry
           → P (pick (ltb e (s .entries)) (entryFrom (entryBytes f s e)) noEntry)

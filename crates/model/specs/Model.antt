@@ -1,9 +1,10 @@
 -- The fabric that an accepted file describes, as forwarding sees it: document 01, "The fabric file". Assumes nothing.
 use mathlib.Core.List.{List}
 use Prim.Native.Nat.{ℕ, zero, suc, _*_}
-use lib.Dec.{ltb}
+use lib.Dec.{ltb, eqb}
 use Rattle.headers.specs.Sets.{allWild}
 use Rattle.headers.specs.Actions.{noAction}
+use Rattle.records.specs.Words.{wordAt, choiceOf}
 use Rattle.records.specs.Records.{headerWords, edgeGroup, edgeAdmitted, entryPriority, entryIn, entryOut, entryMatch, entryAction}
 use Rattle.records.specs.Records.{placeOf, portOfEdge, fromOfLink, toOfLink, recent, edgeBytes, entryBytes}
 use Rattle.records.specs.declared.Shape.{Shape}
@@ -67,6 +68,8 @@ module _ (f : List ℕ) (s : Shape) where
     admitted = λ x. under (allWild headerWords) (λ i. edgeAdmitted (edgeBytes f i)) (edgeAt x);
     linkTo = λ x. under 0 (toOfLink f (s .edges)) (linkBeginning x);
     linkFrom = λ x. under 0 (fromOfLink f (s .edges)) (linkEnding x);
+    ports = 4096;
+    missDrops = eqb (choiceOf (wordAt f 0)) 1;
   }
 
 -- the fabric of a file

@@ -1,4 +1,5 @@
-// The entries of an accepted file that may take a header. What a file's fabric is, is in specs/Model.antt.
+// The entries of an accepted file that may take a header, and what befalls one that none takes. What a file's fabric is, is in
+// specs/Model.antt.
 use records::Shape;
 ghost use mathlib.Core.Path.{_≡_};
 ghost use Prim.Native.Nat.{ℕ, _≤_, _<_};
@@ -21,6 +22,14 @@ pub fn least_above(q: u32) -> u32
     ensures { λ r. ⌜ ((p : ℕ) → leb r p ≡ outranks p q) ⌝ }
 {
     q + 1
+}
+
+// Is a packet that no entry takes dropped (OpenFlow 1.3), and not lost?
+pub fn miss_drops(file: &[u8], shape: Shape) -> bool
+    requires { ⌜ Accepted (now file) shape ⌝ }
+    ensures { λ r. ⌜ r ≡ fabricIn (now (file .entry)) .missDrops ⌝ }
+{
+    records::choice_of(records::word(file, 0)) == 1
 }
 
 // One of the highest entries that match so far, and whether another of its priority does; the number of entries stands for 'none'.

@@ -2,12 +2,12 @@
 use mathlib.Core.Bool.{Bool, true, false, not, _&&_, and-true, and-false}
 use mathlib.Core.List.{List, [], _∷_}
 use mathlib.Core.Path.{_≡_}
-use Prim.Native.Nat.{ℕ, _+_, _/_, _%_, _≤_, _<_}
+use Prim.Native.Nat.{ℕ, _+_, _≤_, _<_}
 use native.Mathlib.Omega.{arith}
 use lib.Dec.{ltb, leb, eqb}
 use borrow.Author.Tests.{lt-ltb, le-leb, lt-leb}
 use Rattle.headers.specs.Sets.{tidy}
-use Rattle.records.specs.Words.{wordAt, wordsIn, bits, kindOf, transferOf, portOf, fromOf, rankOf}
+use Rattle.records.specs.Words.{wordAt, wordsIn, bits, kindOf, versionOf, countOf, transferOf, portOf, fromOf, rankOf}
 use Rattle.records.specs.Records.{headerWords, admittedAt, edgeWords, matchAt, rewriteAt, entryWords, setFrom, placeOf, portOfEdge, fromOfLink, toOfLink, inOfEntry, recent}
 use Rattle.records.proofs.Words.{port-range, from-range}
 use Rattle.questions.specs.Questions.{pick, latest, times, _asks_, firstNo, asked, inOrder, portsRight, setsTidy, linkFree, withinLimits, started}
@@ -105,9 +105,7 @@ module _ (f : List ℕ) (e l n at w : ℕ) (h : Here f e l n 4 w) (ha : at ≡ p
 -- ---- question 2
 
 -- what the code tests of word 0
-pub started-is : (f : List ℕ) (w k : ℕ) → w ≡ wordAt f 0 → k ≡ kindOf w
-    → (eqb k 1 && eqb (w / 65536 % 4096) 1 && eqb (w % 65536) (wordsIn f)) ≡ started f
+pub started-is : (f : List ℕ) (w k v n : ℕ) → w ≡ wordAt f 0 → k ≡ kindOf w → v ≡ versionOf w → n ≡ countOf w
+    → (eqb k 1 && eqb v 1 && eqb n (wordsIn f)) ≡ started f
 unfolding started
-started-is f w k hw hk =
-    let z : w % 65536 ≡ bits 15 0 w = omega arith in
-    rw (hk, z, hw)
+started-is f w k v n hw hk hv hn = rw (hk, hv, hn, hw)

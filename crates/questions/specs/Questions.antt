@@ -7,7 +7,7 @@ use lib.Dec.{ltb, leb, eqb}
 use lib.ListN.{length}
 use Rattle.headers.specs.Bits.{keepIf}
 use Rattle.headers.specs.Sets.{tidy, writes}
-use Rattle.records.specs.Words.{wordAt, wordsIn, bits, kindOf, transferOf, portOf, fromOf}
+use Rattle.records.specs.Words.{wordAt, wordsIn, bits, kindOf, versionOf, countOf, transferOf, portOf, fromOf}
 use Rattle.records.specs.Records.{headerWords, admittedAt, edgeWords, matchAt, rewriteAt, entryWords, setFrom, rewriteFrom}
 use Rattle.records.specs.declared.Shape.{Shape}
 use Rattle.questions.specs.declared.Read.{Read}
@@ -182,9 +182,9 @@ records (suc k) f s =
 unfoldable pub sized : List ℕ → Bool
 sized f = eqb (length f % 4) 0 && leb 8 (length f) && leb (length f) 40200
 
--- 2. "Is word 0 a start of version 1 with the right count?" "bits 27..16 version (1), bits 15..0 the file's word count"
+-- Q2: word 0 is a start of version 1 with the right count; its bit 27 may be 0 or 1 (F16)
 unfoldable pub started : List ℕ → Bool
-started f = eqb (kindOf (wordAt f 0)) 1 && eqb (bits 27 16 (wordAt f 0)) 1 && eqb (bits 15 0 (wordAt f 0)) (wordsIn f)
+started f = eqb (kindOf (wordAt f 0)) 1 && eqb (versionOf (wordAt f 0)) 1 && eqb (countOf (wordAt f 0)) (wordsIn f)
 
 -- "A fabric is accepted if 1 to 7 all get a yes."
 unfoldable pub accepted : List ℕ → Read

@@ -146,7 +146,6 @@ pub fn started(file: &[u8]) -> bool
     ensures { λ r. ⌜ r ≡ started (now (file .entry)) ⌝ }
 {
     let w = records::word(file, 0);
-    let version = w / 0x1_0000 % 0x1000;
-    let count = (w % 0x1_0000) as usize;
-    (records::kind_of(w) == 1) & (version == 1) & (count == file.len() / 4)
+    let count = records::count_of(w) as usize;
+    (records::kind_of(w) == 1) & (records::version_of(w) == 1) & (count == file.len() / 4)
 }

@@ -35,6 +35,17 @@ bytesFrom n f k = take (4 * n) (drop (4 * k) f)
 abbrev pub kindOf : ℕ → ℕ
 kindOf w = bits 31 28 w
 
+-- F3: a start's version, in bits 26..16, and the number of the file's words
+abbrev pub versionOf : ℕ → ℕ
+versionOf w = bits 26 16 w
+
+abbrev pub countOf : ℕ → ℕ
+countOf w = bits 15 0 w
+
+-- F16: a start's bit 27 chooses OpenFlow 1.3
+abbrev pub choiceOf : ℕ → ℕ
+choiceOf w = bits 27 27 w
+
 -- bits 31..28 of an entry's second word: the number of its transfer
 abbrev pub transferOf : ℕ → ℕ
 transferOf w = bits 31 28 w

@@ -8,6 +8,7 @@ ghost use Prim.Native.Nat.{_+_, _*_, _<_, _≤_};
 ghost use lib.ListN.{length};
 ghost use Rattle.headers.specs.Forms.{formOf, actOf};
 ghost use Rattle.records.specs.Words.{wordAt, wordsIn, wordsFrom, bytesFrom, kindOf, transferOf, portOf, fromOf, rankOf};
+ghost use Rattle.records.specs.Words.{versionOf, countOf, choiceOf};
 ghost use Rattle.records.specs.Records.{headerWords, setWords, edgeWords, entryWords, setFrom, edgeGroup, edgePort, edgeAdmitted};
 ghost use Rattle.records.specs.Records.{entryPriority, entryIn, entryOut, entryMatch, transferAt, entryAction, placeOf};
 
@@ -66,6 +67,24 @@ pub fn kind_of(w: u32) -> u32
     ensures { λ r. ⌜ r ≡ kindOf w ⌝ }
 {
     w / BELOW_KIND
+}
+
+pub fn version_of(w: u32) -> u32
+    ensures { λ r. ⌜ r ≡ versionOf w ⌝ }
+{
+    w / 0x1_0000 % 0x800
+}
+
+pub fn count_of(w: u32) -> u32
+    ensures { λ r. ⌜ r ≡ countOf w ⌝ }
+{
+    w % 0x1_0000
+}
+
+pub fn choice_of(w: u32) -> u32
+    ensures { λ r. ⌜ r ≡ choiceOf w ⌝ }
+{
+    w / 0x800_0000 % 2
 }
 
 pub fn transfer_of(w: u32) -> u32

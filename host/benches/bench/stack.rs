@@ -9,7 +9,7 @@ use std::thread;
 use crate::to_host;
 use crate::work::{Call, LIST, RUN, VERDICT};
 use reference::file::write;
-use reference::random::{deep_ring, every_beater_meets, no_beater_meets, Benchmark};
+use reference::random::{deep_ring, every_beater_meets, lost_packets, no_beater_meets, Benchmark};
 use reference::Query;
 
 const PAGE: usize = 4096;
@@ -27,6 +27,9 @@ pub fn table() {
     for descent in [deep_ring(), every_beater_meets(), no_beater_meets()] {
         row(descent.name, &VERDICT, &descent);
         row(descent.name, &LIST, &descent);
+    }
+    for lost in lost_packets() {
+        row(lost.name, &LIST, &lost);
     }
     println!("The library takes no other memory.\n");
 }

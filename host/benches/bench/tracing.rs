@@ -1,17 +1,19 @@
-//! Verdict and list on fabrics whose targets are isolated: the whole trace is
-//! made.
+//! Verdict and list on fabrics whose targets are isolated, and lists of the lost:
+//! the whole trace is made.
 
 use std::time::Duration;
 
 use crate::limits::{most_ratio, Tally};
 use crate::timing::{in_words, Times};
-use crate::work::{audit, fields, traces, Work};
+use crate::work::{audit, fields, lost, traces, Work};
 
-/// The benchmark fabrics, how it grows with the fields of denies, and an audit.
+/// The benchmark fabrics, how it grows with the fields of denies, what is lost, and
+/// an audit.
 pub fn tables() -> Tally {
     let mut tally = Tally::default();
     table("fabric", &traces(), &mut tally);
     table("fields", &fields(), &mut tally);
+    table("lost packets", &lost(), &mut tally);
     table("64 edges", &[audit()], &mut tally);
     tally
 }

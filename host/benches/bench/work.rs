@@ -5,8 +5,9 @@ use std::hint::black_box;
 use crate::timing::{race, Times};
 use crate::to_host;
 use mwishovala::{raw, QUERY_NUMBERS};
-use reference::file::{to_le_words, write};
-use reference::random::{audited, benchmarks, denies_on_fields, Benchmark};
+use reference::calls::count;
+use reference::file::{read, to_le_words, write};
+use reference::random::{audited, benchmarks, denies_on_fields, lost_packets, Benchmark};
 use reference::Query;
 
 /// A call of both.
@@ -58,6 +59,15 @@ pub fn fields() -> Vec<Work> {
     denies_on_fields().map(Work::trace).into()
 }
 
+/// Lists of the packets that are lost.
+pub fn lost() -> Vec<Work> {
+    let lists = lost_packets().map(|benchmark| Work {
+        calls: &[LIST],
+        ..Work::trace(benchmark)
+    });
+    lists.into()
+}
+
 /// A verdict on each edge of a fabric.
 pub fn audit() -> Work {
     let Benchmark {
@@ -76,7 +86,8 @@ pub fn audit() -> Work {
 
 /// All of them.
 pub fn works() -> impl Iterator<Item = Work> {
-    traces().into_iter().chain(fields()).chain([audit()])
+    let lists = traces().into_iter().chain(fields()).chain(lost());
+    lists.chain([audit()])
 }
 
 /// Makes a call of the product with each query of a work, so many times.
@@ -100,17 +111,30 @@ impl Work {
         }
     }
 
-    /// The units of all verdicts. Each is 'isolated', so that a list has as many.
+    /// The units of all queries.
     pub fn units(&self) -> u64 {
-        let units = |query: &Query| {
-            let mut answer = [0; 4 * raw::VERDICT_WORDS];
-            let code = raw::verdict(&self.file, &mut answer, to_host(query).numbers());
-            assert_eq!(code, 24 * 256, "{}: no answer", self.name);
-            let words = to_le_words(&answer);
-            assert_eq!(words[0], 0, "{}: reached", self.name);
-            u64::from(words[1])
+        let units = |query: &Query| match query.is_of_the_lost() {
+            true => self.units_of_the_lost(query),
+            false => self.units_of_a_verdict(query),
         };
         self.queries.iter().map(units).sum()
+    }
+
+    /// The units of a verdict. It is 'isolated', so that a list has as many.
+    fn units_of_a_verdict(&self, query: &Query) -> u64 {
+        let mut answer = [0; 4 * raw::VERDICT_WORDS];
+        let code = raw::verdict(&self.file, &mut answer, to_host(query).numbers());
+        assert_eq!(code, 24 * 256, "{}: no answer", self.name);
+        let words = to_le_words(&answer);
+        assert_eq!(words[0], 0, "{}: reached", self.name);
+        u64::from(words[1])
+    }
+
+    /// The units of a list that no verdict has, as the reference counts them.
+    fn units_of_the_lost(&self, query: &Query) -> u64 {
+        let fabric = read(&self.file).expect("a fabric");
+        let units = count(&fabric, query).expect("a list that ends");
+        u64::from(units)
     }
 
     /// The times of the call with every query, of which both make the same.

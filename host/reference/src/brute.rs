@@ -27,8 +27,8 @@ type Pair = (u16, Header);
 /// Packets, each with its ends under every choice.
 pub type Ends<'f> = Vec<(Packet<'f>, Vec<Way>)>;
 
-/// The pairs that arrive under some choice, with the entries of each way that
-/// does.
+/// The pairs that arrive under some choice, or are lost if the query is of those,
+/// with the entries of each way that does.
 pub type Arrivals = HashMap<Pair, Vec<Vec<u32>>>;
 
 /// All headers over these bits, 0 elsewhere; bit 0 is word 3 bit 0.
@@ -63,7 +63,8 @@ pub fn ends<'f>(fabric: &'f Fabric, bits: &[u32], limit: u32, most: usize) -> Op
 /// "A pair of edge port and header arrives, foreign or not, if a packet with
 /// that header, started at that port, leaves by the forwarding rule at the
 /// target within the limit's hops, with a header in the asked set." Here: if
-/// it does so under some choice.
+/// it does so under some choice. With target 0 they are "the packets lost, under
+/// some choice".
 pub fn arrivals(ends: &Ends, query: &Query) -> Arrivals {
     let mut arrivals = Arrivals::new();
     for (packet, ends) in ends {

@@ -1,19 +1,20 @@
-//! The three calls "on byte slices and numbers", with questions 8 to 13.
+//! The three calls "on byte slices and numbers", with questions 8 to 13; for the
+//! list with document 02's target 0 (2.7).
 
 use std::ops::ControlFlow;
 
-use crate::fabric::{Edge, Fabric};
+use crate::fabric::{Edge, Fabric, OpenFlow};
 use crate::file;
 use crate::forward;
 use crate::index::Index;
 use crate::refusal::{ask, Refusal};
 use crate::set::{to_words, Header, Set};
-use crate::trace::{trace, Ended, Find, MOST_HOPS};
+use crate::trace::{trace, Ended, Find, MOST_HOPS, NOWHERE};
 
 /// Words 1 to 11 of the program's query.
 #[derive(Clone, Copy, Debug, PartialEq, Eq)]
 pub struct Query {
-    /// The target, or a run's start.
+    /// The target, 0 for a list of the packets that are lost; or a run's start.
     pub port: u32,
     pub limit: u32,
     /// Unused by a run.
@@ -26,6 +27,19 @@ impl Query {
     /// The asked set; a run's is its header alone.
     pub fn asked(&self) -> Set {
         Set::of_words(self.care, self.value)
+    }
+
+    /// Whether it is one for the packets that are lost: "the list accepts target 0".
+    pub fn is_of_the_lost(&self) -> bool {
+        self.port == u32::from(NOWHERE)
+    }
+
+    /// The same query of the packets that are lost.
+    pub fn of_the_lost(self) -> Query {
+        Query {
+            port: NOWHERE.into(),
+            ..self
+        }
     }
 
     /// The same query about this set.
@@ -90,7 +104,8 @@ pub fn read_answer(code: u64, area: &[u8]) -> Answer {
 
 /// Questions 8, 9, 10 and 12, then the trace for 13.
 fn judge(fabric: &Fabric, lent: usize, query: &Query) -> Result<Vec<u32>, Refusal> {
-    let (target, limit) = aim(fabric, query)?;
+    let target = edge_port(fabric, query)?;
+    let limit = bounds(query)?;
     ask(12, 0, lent >= ANSWER_WORDS * 4)?;
     let mut reached = Vec::new();
     let visit = |find: &Find| {
@@ -103,7 +118,7 @@ fn judge(fabric: &Fabric, lent: usize, query: &Query) -> Result<Vec<u32>, Refusa
             None => ControlFlow::Continue(()),
         }
     };
-    match trace_back(fabric, target, limit, query, visit) {
+    match trace_back(fabric, target.port, limit, query, visit) {
         Ended::Whole(units) => {
             let mut words = vec![0; ANSWER_WORDS];
             words[1] = units;
@@ -121,7 +136,8 @@ fn judge(fabric: &Fabric, lent: usize, query: &Query) -> Result<Vec<u32>, Refusa
 /// Questions 8, 9 and 10, then the trace for 13, then question 12. Words that
 /// don't fit any more are only counted.
 fn gather(fabric: &Fabric, lent: usize, query: &Query) -> Result<Vec<u32>, Refusal> {
-    let (target, limit) = aim(fabric, query)?;
+    let target = listed_port(fabric, query)?;
+    let limit = bounds(query)?;
     let room = lent / 4;
     let mut words = Vec::new();
     let mut needed: u64 = 0;
@@ -138,6 +154,18 @@ fn gather(fabric: &Fabric, lent: usize, query: &Query) -> Result<Vec<u32>, Refus
     Ok(words)
 }
 
+/// A list's count: "the units that would be made, were there no budget, until no
+/// entry or trial is left", if the query's budget has as many. The query is in
+/// range.
+pub fn count(fabric: &Fabric, query: &Query) -> Option<u32> {
+    let (target, limit) = (query.port as u16, query.limit as usize);
+    let visit = |_: &Find| ControlFlow::Continue(());
+    match trace_back(fabric, target, limit, query, visit) {
+        Ended::Whole(units) => Some(units),
+        _ => None,
+    }
+}
+
 /// Questions 9, 10, 11 and 12, then the packet run.
 fn travel(fabric: &Fabric, lent: usize, query: &Query) -> Result<Vec<u32>, Refusal> {
     let asked = query.asked();
@@ -152,25 +180,38 @@ fn travel(fabric: &Fabric, lent: usize, query: &Query) -> Result<Vec<u32>, Refus
     Ok(words)
 }
 
-/// Questions 8, 9 and 10 of a verdict or list: the target and the limit.
-fn aim<'f>(fabric: &'f Fabric, query: &Query) -> Result<(&'f Edge, usize), Refusal> {
-    let target = fabric.edge(query.port).ok_or(Refusal::new(8, 0))?;
+/// Question 8 of a verdict: "is the target an edge port?"
+fn edge_port<'f>(fabric: &'f Fabric, query: &Query) -> Result<&'f Edge, Refusal> {
+    fabric.edge(query.port).ok_or(Refusal::new(8, 0))
+}
+
+/// Question 8 of a list: "under 1.0 .. the list accepts target 0", "under 1.3,
+/// target 0 still fails question 8".
+fn listed_port(fabric: &Fabric, query: &Query) -> Result<u16, Refusal> {
+    match (fabric.openflow, query.is_of_the_lost()) {
+        (OpenFlow::V1_0, true) => Ok(NOWHERE),
+        _ => edge_port(fabric, query).map(|edge| edge.port),
+    }
+}
+
+/// Questions 9 and 10 of a verdict or list: the limit.
+fn bounds(query: &Query) -> Result<usize, Refusal> {
     let limit = limit(query)?;
     ask(10, 0, query.asked().is_proper())?;
-    Ok((target, limit))
+    Ok(limit)
 }
 
 /// The trace of what the query asks for.
 fn trace_back(
     fabric: &Fabric,
-    target: &Edge,
+    target: u16,
     limit: usize,
     query: &Query,
     visit: impl FnMut(&Find) -> ControlFlow<()>,
 ) -> Ended {
     let index = Index::new(fabric);
     let (asked, budget) = (query.asked(), query.budget);
-    trace(&index, target.port, limit, asked, budget, visit)
+    trace(&index, target, limit, asked, budget, visit)
 }
 
 /// Question 9: "Is the hop limit 1 to 16?"

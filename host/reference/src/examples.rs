@@ -2,15 +2,20 @@
 //! tests here and in the folder above both ask about.
 
 mod equals;
+mod misses;
 mod transfers;
 
 pub use equals::{alike, equals_behind_a_link, equals_below, leak_by_choice, ring_of_equals};
+pub use misses::{
+    a_link_end_between_edges, lost_after_two_hops, lost_at_once, lost_by_choice, odd_tp_dst,
+    under_1_3,
+};
 pub use transfers::{
     equals_after_a_copy, nw_dst, nw_src, one_reply, replies_behind_a_link, swapped_and_dropped,
 };
 
 use crate::calls::Query;
-use crate::fabric::{Edge, Entry, Fabric, Link};
+use crate::fabric::{Edge, Entry, Fabric, Link, OpenFlow};
 use crate::file::to_le_bytes;
 use crate::set::{Rewrite, Set};
 use crate::transfer::Transfer;
@@ -96,6 +101,7 @@ pub fn entry(priority: u16, in_port: u16, out_port: u16) -> Entry {
 
 pub fn fabric(edges: &[Edge], links: &[Link], entries: &[Entry]) -> Fabric {
     Fabric {
+        openflow: OpenFlow::V1_0,
         edges: edges.to_vec(),
         links: links.to_vec(),
         entries: entries.to_vec(),

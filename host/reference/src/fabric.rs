@@ -50,9 +50,25 @@ impl Entry {
     }
 }
 
+/// Which OpenFlow the switches follow where no entry takes a packet: "table miss,
+/// old and new".
+#[derive(Clone, Copy, Debug, Default, PartialEq, Eq, Hash)]
+pub enum OpenFlow {
+    /// The packet is lost.
+    #[default]
+    V1_0 = 0,
+    /// It is dropped.
+    V1_3 = 1,
+}
+
+impl OpenFlow {
+    pub const ALL: [OpenFlow; 2] = [OpenFlow::V1_0, OpenFlow::V1_3];
+}
+
 /// All records in file order.
 #[derive(Clone, Debug, Default, PartialEq, Eq)]
 pub struct Fabric {
+    pub openflow: OpenFlow,
     pub edges: Vec<Edge>,
     pub links: Vec<Link>,
     pub entries: Vec<Entry>,

@@ -1,10 +1,11 @@
 //! The fabric file, read and written: document 01, "The fabric file" and
 //! questions 1 to 7, with the transfer that document 02 puts in "bits 31..28 of
-//! an entry's second word" (2.5).
+//! an entry's second word" (2.5) and the choice in "bit 27 of the start word"
+//! (2.7).
 
 use crate::fabric::{
-    Edge, Entry, Fabric, Link, MOST_EDGES, MOST_ENTRIES, MOST_ENTRIES_PER_IN_PORT, MOST_LINKS,
-    PORTS,
+    Edge, Entry, Fabric, Link, OpenFlow, MOST_EDGES, MOST_ENTRIES, MOST_ENTRIES_PER_IN_PORT,
+    MOST_LINKS, PORTS,
 };
 use crate::refusal::{ask, Refusal};
 use crate::set::{to_words, Rewrite, Set};
@@ -21,9 +22,18 @@ pub const LINK_WORDS: usize = 1;
 pub const ENTRY_WORDS: usize = 18;
 pub const MOST_BYTES: usize = 40_200;
 
-/// The start of a file of this many words, "version (1)".
+/// The one version there is.
+const VERSION: u32 = 1;
+
+/// The start of a file of this many words, under OpenFlow 1.0.
 pub fn start_word(words: usize) -> u32 {
-    START << 28 | 1 << 16 | words as u32 & 0xffff
+    start_under(OpenFlow::V1_0, words)
+}
+
+/// "Bit 27 of the start word chooses OpenFlow 1.3 over 1.0, and the version is the
+/// eleven bits below."
+pub fn start_under(openflow: OpenFlow, words: usize) -> u32 {
+    START << 28 | (openflow as u32) << 27 | VERSION << 16 | words as u32 & 0xffff
 }
 
 /// Reads a file by asking questions 1 to 7 in turn; questions 3 to 7 are asked
@@ -33,8 +43,8 @@ pub fn read(bytes: &[u8]) -> Result<Fabric, Refusal> {
     let in_range = (8..=MOST_BYTES).contains(&length);
     ask(1, 0, in_range && length.is_multiple_of(4))?;
     let words = to_le_words(bytes);
-    ask(2, 0, words[0] == start_word(words.len()))?;
-    let mut reader = Reader::new();
+    let openflow = openflow_of(&words).ok_or(Refusal::new(2, 0))?;
+    let mut reader = Reader::new(openflow);
     let mut place = 1;
     let mut last = START;
     loop {
@@ -64,7 +74,7 @@ pub fn write(fabric: &Fabric) -> Vec<u8> {
         words.extend(entry_record(entry));
     }
     words.push(END << 28);
-    words[0] = start_word(words.len());
+    words[0] = start_under(fabric.openflow, words.len());
     to_le_bytes(&words)
 }
 
@@ -79,6 +89,19 @@ pub fn to_le_words(bytes: &[u8]) -> Vec<u32> {
 /// Words as little-endian bytes.
 pub fn to_le_bytes(words: &[u32]) -> Vec<u8> {
     words.iter().flat_map(|word| word.to_le_bytes()).collect()
+}
+
+/// Question 2: "Is word 0 a start of version 1 with the right count?" Then what its
+/// bit 27 chooses, either of which is right.
+fn openflow_of(words: &[u32]) -> Option<OpenFlow> {
+    let start = *words.first()?;
+    let (kind, version, count) = (start >> 28, start >> 16 & 0x7ff, start & 0xffff);
+    let is_right = kind == START && version == VERSION && count as usize == words.len();
+    let chosen = match start >> 27 & 1 {
+        0 => OpenFlow::V1_0,
+        _ => OpenFlow::V1_3,
+    };
+    is_right.then_some(chosen)
 }
 
 /// Question 3: "Is there a word here, its kind 2 to 5 and no smaller than the
@@ -116,9 +139,12 @@ struct Reader {
 /// Questions 4 to 7 of one record, and before them what question 3 asks of an
 /// entry's transfer.
 impl Reader {
-    fn new() -> Reader {
+    fn new(openflow: OpenFlow) -> Reader {
         Reader {
-            fabric: Fabric::default(),
+            fabric: Fabric {
+                openflow,
+                ..Fabric::default()
+            },
             is_edge: [false; PORTS],
             is_link_end: [false; PORTS],
             entries_at: [0; PORTS],

@@ -1,7 +1,7 @@
 //! Forwarding a packet: document 01, "Forwarding", with document 02's equal
-//! priorities (2.3) and reply entries (2.5).
+//! priorities (2.3), reply entries (2.5) and table miss (2.7).
 
-use crate::fabric::{Entry, Fabric};
+use crate::fabric::{Entry, Fabric, OpenFlow};
 use crate::set::Header;
 
 /// "Now only a strictly higher priority beats", at the same in-port. Both are
@@ -12,7 +12,7 @@ pub fn beats(fabric: &Fabric, one: usize, other: usize) -> bool {
 }
 
 /// "Any matching entry of the highest priority may take the packet": their
-/// numbers, in file order. None: the packet is lost.
+/// numbers, in file order. None: a table miss.
 pub fn takers(fabric: &Fabric, in_port: u16, header: Header) -> Vec<usize> {
     let mut takers: Vec<usize> = Vec::new();
     for (number, entry) in fabric.entries.iter().enumerate() {
@@ -79,13 +79,22 @@ pub fn run_by(
     at
 }
 
+/// "Under 1.3 a packet no entry takes has fate 1 with its in-port and no further
+/// hop. Under 1.0 it has fate 2."
+fn fate_of_a_miss(openflow: OpenFlow) -> Fate {
+    match openflow {
+        OpenFlow::V1_0 => Fate::Lost,
+        OpenFlow::V1_3 => Fate::Dropped,
+    }
+}
+
 /// The next hop of a packet that travels: "It rewrites, and one hop is made." A
 /// drop does all that too.
 fn hop(apply: impl Fn(&Entry, Header) -> Header, fabric: &Fabric, at: &mut Run) {
     let takers = takers(fabric, at.port, at.header);
     let [number] = takers[..] else {
         at.fate = match takers.is_empty() {
-            true => Fate::Lost,
+            true => fate_of_a_miss(fabric.openflow),
             false => Fate::Tied,
         };
         return;

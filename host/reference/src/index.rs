@@ -1,5 +1,5 @@
-//! Plain indexes for the back-trace, made once a call: entries by out-port,
-//! beaters by entry, what stands at an entry's in-port.
+//! Plain indexes for the back-trace, made once a call: entries by out-port and by
+//! in-port, beaters by entry, what stands at an entry's in-port.
 
 use std::iter::successors;
 
@@ -23,6 +23,7 @@ pub enum Origin {
 pub struct Index<'f> {
     fabric: &'f Fabric,
     by_out_port: Chains,
+    by_in_port: Chains,
     beaters: Vec<u16>,
     /// Entry `i` is beaten by `beaters[starts[i]..starts[i + 1]]`.
     starts: Vec<usize>,
@@ -33,10 +34,12 @@ pub struct Index<'f> {
 impl<'f> Index<'f> {
     pub fn new(fabric: &'f Fabric) -> Index<'f> {
         let entries = &fabric.entries;
-        let (beaters, starts) = beaters(fabric);
+        let by_in_port = Chains::new(entries.iter().map(|entry| entry.in_port));
+        let (beaters, starts) = beaters(fabric, &by_in_port);
         Index {
             fabric,
             by_out_port: Chains::new(entries.iter().map(|entry| entry.out_port)),
+            by_in_port,
             beaters,
             starts,
             origins: origins(fabric),
@@ -53,6 +56,11 @@ impl<'f> Index<'f> {
         self.by_out_port.at(port)
     }
 
+    /// The entries with this in-port, in file order.
+    pub fn with_in_port(&self, port: u16) -> impl Iterator<Item = u16> + '_ {
+        self.by_in_port.at(port)
+    }
+
     /// The entries that beat this one, in file order.
     pub fn beaters(&self, entry: u16) -> &[u16] {
         let entry = usize::from(entry);
@@ -62,6 +70,14 @@ impl<'f> Index<'f> {
     /// What stands at this entry's in-port.
     pub fn origin(&self, entry: u16) -> Origin {
         self.origins[usize::from(entry)]
+    }
+
+    /// Where packets come in: "Edge ports and link ends are taken in rising number".
+    /// Each with what stands there.
+    pub fn in_ports(&self) -> Vec<(u16, Origin)> {
+        let mut in_ports: Vec<_> = open_ports(self.fabric).collect();
+        in_ports.sort_by_key(|(port, _)| *port);
+        in_ports
     }
 
     /// This entry's match; all of them lie close together.
@@ -101,12 +117,10 @@ impl Chains {
 }
 
 /// All entries' beaters, and where each entry's start.
-fn beaters(fabric: &Fabric) -> (Vec<u16>, Vec<usize>) {
-    let in_ports = fabric.entries.iter().map(|entry| entry.in_port);
-    let by_in_port = Chains::new(in_ports.clone());
+fn beaters(fabric: &Fabric, by_in_port: &Chains) -> (Vec<u16>, Vec<usize>) {
     let (mut beaters, mut starts) = (Vec::new(), vec![0]);
-    for (number, in_port) in in_ports.enumerate() {
-        for other in by_in_port.at(in_port) {
+    for (number, entry) in fabric.entries.iter().enumerate() {
+        for other in by_in_port.at(entry.in_port) {
             if beats(fabric, usize::from(other), number) {
                 beaters.push(other);
             }
@@ -116,19 +130,22 @@ fn beaters(fabric: &Fabric) -> (Vec<u16>, Vec<usize>) {
     (beaters, starts)
 }
 
+/// The link ends and then the edge ports, each with what stands there.
+fn open_ports(fabric: &Fabric) -> impl Iterator<Item = (u16, Origin)> + '_ {
+    let ends = fabric.links.iter();
+    let ends = ends.map(|link| (link.to, Origin::Link(link.from)));
+    let edges = (0..).zip(&fabric.edges);
+    let edges = edges.map(|(number, edge)| (edge.port, Origin::Edge(number)));
+    ends.chain(edges)
+}
+
 /// What stands at each entry's in-port.
 fn origins(fabric: &Fabric) -> Vec<Origin> {
     let mut at_port = vec![Origin::Nothing; PORTS];
-    let mut put = |port: u16, origin| {
+    for (port, origin) in open_ports(fabric) {
         if let Some(place) = at_port.get_mut(usize::from(port)) {
             *place = origin;
         }
-    };
-    for link in &fabric.links {
-        put(link.to, Origin::Link(link.from));
-    }
-    for (number, edge) in fabric.edges.iter().enumerate() {
-        put(edge.port, Origin::Edge(number as u16));
     }
     let in_ports = fabric.entries.iter().map(|entry| entry.in_port);
     in_ports

@@ -7,6 +7,7 @@ mod damage;
 mod denies;
 mod equals;
 mod largest;
+mod misses;
 mod parts;
 mod queries;
 mod ring;
@@ -15,16 +16,17 @@ mod switches;
 mod transfers;
 
 pub use benchmark::{
-    audited, benchmarks, campus, deep_ring, denies_on_fields, every_beater_meets, no_beater_meets,
-    random_denies, random_transit, replies, routed_campus, twenty_denies, Benchmark,
+    audited, benchmarks, campus, deep_ring, denies_on_fields, every_beater_meets, lost_packets,
+    no_beater_meets, random_denies, random_transit, replies, routed_campus, twenty_denies,
+    Benchmark,
 };
 pub use crowded::crowded;
 pub use damage::{damage, inflict, Damage, Damaged};
 pub use denies::{beater_chain, wild_under_denies};
 pub use largest::largest;
-pub use queries::{packet, query, small_query};
+pub use queries::{list_query, packet, query, small_query};
 pub use ring::ring;
-pub use small::{dead_ends, small, small_ring, ties, tiny, Small};
+pub use small::{dead_ends, leaky_ring, small, small_ring, ties, tiny, Small};
 pub use switches::switches;
 
 use crate::fabric::Fabric;
@@ -105,10 +107,12 @@ pub fn cases(first: u64, number: u64, case: impl Fn(&mut Rng)) {
     }
 }
 
-/// What every fabric gets in the end: copies and swaps, then ties.
+/// What every fabric gets in the end: copies and swaps, then ties, then what comes
+/// of a table miss.
 fn finish(rng: &mut Rng, fabric: &mut Fabric) {
     transfers::scatter(rng, fabric);
     equals::settle(rng, fabric);
+    misses::choose(rng, fabric);
 }
 
 /// A fabric from any of the generators.
@@ -117,9 +121,10 @@ pub fn any(rng: &mut Rng) -> Fabric {
         0 => tiny(rng).fabric,
         1 => ties(rng).fabric,
         2 => dead_ends(rng).fabric,
-        3 => match rng.once_in(2) {
-            true => small(rng).fabric,
-            false => small_ring(rng).fabric,
+        3 => match rng.below(3) {
+            0 => small(rng).fabric,
+            1 => small_ring(rng).fabric,
+            _ => leaky_ring(rng).fabric,
         },
         4 | 5 => switches(rng),
         6 => ring(rng),

@@ -3,7 +3,7 @@
 //! telling has the answer for every budget.
 
 use crate::calls::Query;
-use crate::fabric::{Edge, Entry, Fabric};
+use crate::fabric::{Edge, Entry, Fabric, PORTS};
 use crate::set::Set;
 use crate::transfer::Transfer;
 
@@ -41,7 +41,11 @@ pub fn events_by(
         path: Vec::new(),
         events: Vec::new(),
     };
-    teller.stop(query.port, &from_set(&query.asked()), query.limit)?;
+    let asked = from_set(&query.asked());
+    match query.is_of_the_lost() {
+        true => teller.lost(&asked, query.limit)?,
+        false => teller.stop(query.port, &asked, query.limit)?,
+    }
     Some(teller.events)
 }
 
@@ -109,6 +113,25 @@ impl<U: FnMut(&Entry, &Ternary) -> Option<Ternary>> Teller<'_, U> {
         (self.events.len() <= self.most).then_some(())
     }
 
+    /// Port after port, where there is an edge or a link's end.
+    fn lost(&mut self, asked: &Ternary, left: u32) -> Option<()> {
+        let Fabric {
+            edges,
+            links,
+            entries,
+            ..
+        } = self.fabric;
+        for port in 1..PORTS as u16 {
+            let at_edge = edges.iter().any(|edge| edge.port == port);
+            if at_edge || links.iter().any(|link| link.to == port) {
+                let here = entries.iter().filter(|entry| entry.in_port == port);
+                let matches: Vec<_> = here.map(|entry| from_set(&entry.matching)).collect();
+                self.carve(port, asked, &matches, left)?;
+            }
+        }
+        Some(())
+    }
+
     fn stop(&mut self, out_port: u32, wanted: &Ternary, left: u32) -> Option<()> {
         for (number, entry) in self.fabric.entries.iter().enumerate() {
             if u32::from(entry.out_port) != out_port {
@@ -118,26 +141,31 @@ impl<U: FnMut(&Entry, &Ternary) -> Option<Ternary>> Teller<'_, U> {
             let undone = (self.undo)(entry, wanted);
             if let Some(part) = undone.and_then(|set| both(&set, &from_set(&entry.matching))) {
                 self.path.insert(0, number);
-                self.carve(&part, &self.beaters(number), left)?;
+                self.carve(entry.in_port, &part, &self.beaters(number), left)?;
                 self.path.remove(0);
             }
         }
         Some(())
     }
 
-    fn carve(&mut self, part: &Ternary, beaters: &[Ternary], left: u32) -> Option<()> {
+    fn carve(
+        &mut self,
+        in_port: u16,
+        part: &Ternary,
+        beaters: &[Ternary],
+        left: u32,
+    ) -> Option<()> {
         let Some((beater, others)) = beaters.split_first() else {
-            return self.survived(part, left);
+            return self.survived(in_port, part, left);
         };
         self.tell(Event::Unit)?;
         for piece in carved(part, beater) {
-            self.carve(&piece, others, left)?;
+            self.carve(in_port, &piece, others, left)?;
         }
         Some(())
     }
 
-    fn survived(&mut self, part: &Ternary, left: u32) -> Option<()> {
-        let in_port = self.fabric.entries[self.path[0]].in_port;
+    fn survived(&mut self, in_port: u16, part: &Ternary, left: u32) -> Option<()> {
         let edges = &self.fabric.edges;
         if let Some(edge) = edges.iter().position(|edge| edge.port == in_port) {
             return self.tell(Event::Find {

@@ -1,4 +1,5 @@
-//! The back-trace and its count: document 01, "The back-trace and its count".
+//! The back-trace and its count: document 01, "The back-trace and its count", and
+//! where it starts for the packets that are lost: document 02's 2.7.
 
 use std::ops::ControlFlow;
 
@@ -7,6 +8,8 @@ use crate::set::Set;
 
 /// Question 9's upper limit.
 pub const MOST_HOPS: usize = 16;
+/// What a list has for a target if it is of the packets that are lost.
+pub const NOWHERE: u16 = 0;
 
 /// A part that came back to an edge port.
 #[derive(Clone, Copy, Debug, PartialEq, Eq)]
@@ -29,8 +32,9 @@ pub enum Ended {
     Spent,
 }
 
-/// Traces back from the target, an edge port, and shows each find in turn to
-/// the visitor. The limit is 1 to 16; no find has more hops than that.
+/// Traces back from the target, an edge port or nowhere, and shows each find in
+/// turn to the visitor. The limit is 1 to 16; no find has more hops than that, and
+/// none of a lost packet as many.
 pub fn trace(
     index: &Index,
     target: u16,
@@ -42,14 +46,18 @@ pub fn trace(
     let limit = limit.min(MOST_HOPS);
     let mut tracer = Tracer {
         index,
-        limit,
+        longest: match target {
+            NOWHERE => limit.saturating_sub(1),
+            _ => limit,
+        },
         budget,
         units: 0,
         path: [0; MOST_HOPS],
         visit,
     };
-    let walked = match limit {
-        0 => Ok(()),
+    let walked = match (limit, target) {
+        (0, _) => Ok(()),
+        (_, NOWHERE) => tracer.lost(&asked, limit),
         _ => tracer.stop(target, &asked, limit),
     };
     match walked {
@@ -67,7 +75,8 @@ enum Halt {
 
 struct Tracer<'i, 'f, V> {
     index: &'i Index<'f>,
-    limit: usize,
+    /// The most hops that a find can have.
+    longest: usize,
     budget: u32,
     units: u32,
     /// The entry of the stop with `left` hops stands at `left - 1`: what is
@@ -76,13 +85,25 @@ struct Tracer<'i, 'f, V> {
     visit: V,
 }
 
-impl<'i, V: FnMut(&Find) -> ControlFlow<()>> Tracer<'i, '_, V> {
+impl<V: FnMut(&Find) -> ControlFlow<()>> Tracer<'_, '_, V> {
     /// "A unit is made only while fewer than the budget were made."
     fn unit(&mut self) -> Result<(), Halt> {
         if self.units >= self.budget {
             return Err(Halt::Budget);
         }
         self.units += 1;
+        Ok(())
+    }
+
+    /// "Edge ports and link ends are taken in rising number, the asked set carved by
+    /// all entries of that in-port in file order, a unit a trial." No entry takes what
+    /// survives. At an edge port that is after no hop; where a link ends, after one at
+    /// least, so that the stop behind it has the limit less one hop left.
+    fn lost(&mut self, asked: &Set, left: usize) -> Result<(), Halt> {
+        for (port, origin) in self.index.in_ports() {
+            let here: Vec<u16> = self.index.with_in_port(port).collect();
+            self.carve(origin, &here, asked, left)?;
+        }
         Ok(())
     }
 
@@ -100,7 +121,7 @@ impl<'i, V: FnMut(&Find) -> ControlFlow<()>> Tracer<'i, '_, V> {
             let part = undone.and_then(|set| set.intersect(index.matching(entry)));
             if let Some(part) = part {
                 self.path[left - 1] = entry;
-                self.carve(entry, index.beaters(entry), &part, left)?;
+                self.carve(index.origin(entry), index.beaters(entry), &part, left)?;
             }
         }
         Ok(())
@@ -111,8 +132,8 @@ impl<'i, V: FnMut(&Find) -> ControlFlow<()>> Tracer<'i, '_, V> {
     /// sibling." A part that doesn't meet the beater goes on alone.
     fn carve(
         &mut self,
-        entry: u16,
-        beaters: &'i [u16],
+        origin: Origin,
+        beaters: &[u16],
         part: &Set,
         left: usize,
     ) -> Result<(), Halt> {
@@ -121,19 +142,19 @@ impl<'i, V: FnMut(&Find) -> ControlFlow<()>> Tracer<'i, '_, V> {
             let beater = self.index.matching(beater);
             if part.meets(beater) {
                 for piece in part.split(beater) {
-                    self.carve(entry, &beaters[tried + 1..], &piece, left)?;
+                    self.carve(origin, &beaters[tried + 1..], &piece, left)?;
                 }
                 return Ok(());
             }
         }
-        self.survived(entry, part, left)
+        self.survived(origin, part, left)
     }
 
     /// "If that is an edge port, the part is a find. If a link ends there and
     /// more than one hop was left, a stop follows at its from-port with one
     /// hop less."
-    fn survived(&mut self, entry: u16, part: &Set, left: usize) -> Result<(), Halt> {
-        match self.index.origin(entry) {
+    fn survived(&mut self, origin: Origin, part: &Set, left: usize) -> Result<(), Halt> {
+        match origin {
             Origin::Edge(edge) => self.find(usize::from(edge), part, left),
             Origin::Link(from) if left > 1 => self.stop(from, part, left - 1),
             Origin::Link(_) | Origin::Nothing => Ok(()),
@@ -143,7 +164,7 @@ impl<'i, V: FnMut(&Find) -> ControlFlow<()>> Tracer<'i, '_, V> {
     fn find(&mut self, edge: usize, part: &Set, left: usize) -> Result<(), Halt> {
         let find = Find {
             edge,
-            entries: &self.path[left - 1..self.limit],
+            entries: &self.path[left - 1..self.longest],
             set: *part,
         };
         match (self.visit)(&find) {

@@ -1,9 +1,9 @@
 //! Plain forwarding of one packet under every choice among equals: document
-//! 01's "Forwarding" and document 02's 2.3 and 2.5, sentence by sentence. It
+//! 01's "Forwarding" and document 02's 2.3, 2.5 and 2.7, sentence by sentence. It
 //! takes only the plain records from the rest, and knows nothing of a trace.
 
 use crate::calls::Query;
-use crate::fabric::{Entry, Fabric};
+use crate::fabric::{Entry, Fabric, OpenFlow};
 use crate::set::{from_words, to_words, Header, Rewrite, Set};
 use crate::transfer::Transfer;
 
@@ -34,10 +34,15 @@ impl Way {
         }
     }
 
-    /// Whether it is an end at the target, with a header in the asked set.
+    /// Whether it is an end at the target, with a header in the asked set. With
+    /// target 0 that is an end of "the packets lost": "with a header in the asked
+    /// set, after zero or more hops and fewer than the limit".
     pub fn arrives(&self, query: &Query) -> bool {
-        let left_there = self.fate == Some(LEFT) && u32::from(self.port) == query.port;
-        left_there && holds(&query.asked(), self.header)
+        let is_there = match query.port {
+            0 => self.fate == Some(LOST),
+            target => self.fate == Some(LEFT) && u32::from(self.port) == target,
+        };
+        is_there && holds(&query.asked(), self.header)
     }
 
     /// The 24 words of a packet run that ended like this.
@@ -93,7 +98,7 @@ impl<'f> Packet<'f> {
                 open.push(self.taken(way.clone(), number));
             }
             if takers.is_empty() {
-                ends.push(way.ended(LOST));
+                ends.push(self.missed(way));
             }
         }
         Some(ends)
@@ -105,7 +110,7 @@ impl<'f> Packet<'f> {
         let mut way = self.at_start();
         while way.fate.is_none() {
             way = match takers(self.fabric, way.port, way.header)[..] {
-                [] => way.ended(LOST),
+                [] => self.missed(way),
                 [only] => self.taken(way, only),
                 _ => way.ended(TIED),
             };
@@ -128,7 +133,8 @@ impl<'f> Packet<'f> {
         Some(way.ended(TIED))
     }
 
-    /// Its way if these entries take it in turn; none unless each of them may.
+    /// Its way if these entries take it in turn, ended if no other may after them;
+    /// none unless each of them may.
     pub fn follow(&self, entries: &[u32]) -> Option<Way> {
         let mut way = self.at_start();
         for &number in entries {
@@ -138,7 +144,8 @@ impl<'f> Packet<'f> {
             }
             way = self.taken(way, number);
         }
-        Some(way)
+        let missed = way.fate.is_none() && takers(self.fabric, way.port, way.header).is_empty();
+        Some(if missed { self.missed(way) } else { way })
     }
 
     fn at_start(&self) -> Way {
@@ -148,6 +155,15 @@ impl<'f> Packet<'f> {
             header: self.header,
             entries: Vec::new(),
         }
+    }
+
+    /// "Under 1.3 a packet no entry takes has fate 1 with its in-port and no further
+    /// hop. Under 1.0 it has fate 2."
+    fn missed(&self, way: Way) -> Way {
+        way.ended(match self.fabric.openflow {
+            OpenFlow::V1_0 => LOST,
+            OpenFlow::V1_3 => DROPPED,
+        })
     }
 
     /// "It rewrites, and one hop is made. Out-port 0: dropped. An out-port that

@@ -5,7 +5,7 @@ mod common;
 
 use common::answer;
 use reference::brute::{Checked, Fact};
-use reference::random::{crowded, dead_ends, small, small_ring, ties, tiny};
+use reference::random::{crowded, dead_ends, leaky_ring, small, small_ring, ties, tiny};
 use reference::{list, run, verdict};
 
 const CHECKED: Checked = Checked {
@@ -16,7 +16,8 @@ const CHECKED: Checked = Checked {
 
 #[test]
 fn tiny_fabrics() {
-    CHECKED.on_many(200_000, 4000, tiny);
+    let tally = CHECKED.on_many(200_000, 4000, tiny);
+    tally.has(200, &[Fact::LostRefused, Fact::LostAtOnce]);
 }
 
 #[test]
@@ -24,6 +25,7 @@ fn small_fabrics() {
     let tally = CHECKED.on_many(300_000, 4000, small);
     tally.has(10, &Fact::OF_TIES);
     tally.has(20, &Fact::OF_TRANSFERS);
+    tally.has(20, &Fact::OF_MISSES);
 }
 
 #[test]
@@ -31,6 +33,7 @@ fn fabrics_of_ties() {
     let tally = CHECKED.on_many(400_000, 5000, ties);
     tally.has(40, &Fact::OF_TIES);
     tally.has(50, &Fact::OF_TRANSFERS);
+    tally.has(40, &Fact::OF_MISSES);
 }
 
 #[test]
@@ -38,6 +41,7 @@ fn fabrics_with_dead_ends() {
     let tally = CHECKED.on_many(500_000, 2500, dead_ends);
     tally.has(10, &Fact::OF_TIES);
     tally.has(20, &Fact::OF_TRANSFERS);
+    tally.has(20, &Fact::OF_MISSES);
 }
 
 #[test]
@@ -49,8 +53,16 @@ fn small_rings() {
 }
 
 #[test]
+fn leaky_rings() {
+    let tally = CHECKED.on_many(570_000, 3000, leaky_ring);
+    tally.has(40, &Fact::OF_MISSES);
+    tally.has(300, &[Fact::LostFar]);
+}
+
+#[test]
 fn crowded_in_ports() {
     let tally = CHECKED.on_many(560_000, 2000, crowded);
     tally.has(10, &Fact::OF_TIES);
     tally.has(30, &Fact::OF_TRANSFERS);
+    tally.has(10, &Fact::OF_MISSES);
 }

@@ -102,7 +102,7 @@ fn arrives_so(fabric: &Fabric, query: &Query, words: &[u32]) -> bool {
 #[test]
 fn wrong_runs() {
     let tied = Seen::default();
-    on_cases((620_000, 400), |made, _, ends, rng| {
+    on_cases((620_000, 800), |made, _, ends, rng| {
         let Some((packet, ends)) = rng.pick(ends) else {
             return;
         };

@@ -7,11 +7,11 @@ use common::{answer, Seen};
 use reference::examples::{edge, entry, fabric, link, tp_dst, wild_query};
 use reference::file::write;
 use reference::random::{
-    any, audited, campus, cases, crowded, deep_ring, every_beater_meets, no_beater_meets, query,
-    random_denies, replies, routed_campus, small_query, Benchmark,
+    any, audited, campus, cases, crowded, deep_ring, every_beater_meets, leaky_ring, list_query,
+    no_beater_meets, random_denies, replies, routed_campus, small_query, Benchmark,
 };
 use reference::ternary::{self, Event, Ternary};
-use reference::{list, verdict, Entry, Fabric, Query, Set};
+use reference::{list, verdict, Entry, Fabric, OpenFlow, Query, Set};
 
 /// Beyond this a case is skipped.
 const MOST_EVENTS: usize = 10_000;
@@ -23,19 +23,33 @@ fn check_budgets(fabric: &Fabric, asked: &Query, events: &[Event]) {
         budget: u32::MAX,
         ..*asked
     };
-    let verdict_units = ternary::verdict(fabric, &unbound, events).unwrap()[1];
+    let judged = ternary::verdict(fabric, &unbound, events);
+    assert_eq!(judged.is_none(), asked.is_of_the_lost());
+    let verdict_units = judged.map_or(0, |words| words[1]);
     let all_units = events.iter().filter(|event| **event == Event::Unit).count() as u32;
     for count in [verdict_units, all_units, 0, asked.budget] {
         for budget in [count.saturating_sub(1), count, count.saturating_add(1)] {
             let asked = Query { budget, ..*asked };
-            let expected = ternary::verdict(fabric, &asked, events).ok_or((13, 0));
-            assert_eq!(answer(verdict, &file, 96, &asked), expected);
-            assert_eq!(expected.is_ok(), budget >= verdict_units);
+            let judged = answer(verdict, &file, 96, &asked);
+            if asked.is_of_the_lost() {
+                assert_eq!(judged, Err((8, 0)));
+            } else {
+                let expected = ternary::verdict(fabric, &asked, events).ok_or((13, 0));
+                assert_eq!(judged, expected);
+                assert_eq!(expected.is_ok(), budget >= verdict_units);
+            }
             let expected = ternary::list(fabric, &asked, events).ok_or((13, 0));
             assert_eq!(expected.is_ok(), budget >= all_units);
             check_room(&file, &asked, expected);
         }
     }
+}
+
+/// Whether it is one for a list: "under 1.0 .. the list accepts target 0".
+fn is_in_range(fabric: &Fabric, asked: &Query) -> bool {
+    let is_of_the_lost = asked.port == 0 && fabric.openflow == OpenFlow::V1_0;
+    let is_right = is_of_the_lost || fabric.edge(asked.port).is_some();
+    is_right && asked.asked().is_proper() && (1..=16).contains(&asked.limit)
 }
 
 /// The list with room for all its words, and with a byte less.
@@ -50,10 +64,10 @@ fn check_room(file: &[u8], asked: &Query, expected: Result<Vec<u32>, (u8, u64)>)
 }
 
 /// In more than half of the cases there is a unit; in many a copy is undone that
-/// joins wanted bits.
+/// joins wanted bits, and many are lists of the lost.
 #[test]
 fn every_budget_and_room() {
-    let [compared, agree, disagree]: [Seen; 3] = Default::default();
+    let [compared, agree, disagree, lost]: [Seen; 4] = Default::default();
     let undo = |entry: &Entry, wanted: &Ternary| {
         let joined = ternary::joins_agree(entry, wanted);
         agree.count(joined == Some(true));
@@ -62,22 +76,45 @@ fn every_budget_and_room() {
     };
     cases(700_000, 5000, |rng| {
         let fabric = any(rng);
-        let asked = query(rng, &fabric, 2000);
-        let in_range = asked.asked().is_proper()
-            && (1..=16).contains(&asked.limit)
-            && fabric.edge(asked.port).is_some();
-        if !in_range {
+        let asked = list_query(rng, &fabric, 2000);
+        if !is_in_range(&fabric, &asked) {
             assert!(answer(verdict, &write(&fabric), 96, &asked).is_err());
+            assert!(answer(list, &write(&fabric), 96, &asked).is_err());
             return;
         }
         if let Some(events) = ternary::events_by(undo, &fabric, &asked, MOST_EVENTS) {
             check_budgets(&fabric, &asked, &events);
             compared.count(events.contains(&Event::Unit));
+            lost.count(asked.is_of_the_lost() && events.contains(&Event::Unit));
         }
     });
     compared.at_least(2500);
     agree.at_least(1000);
     disagree.at_least(1000);
+    lost.at_least(400);
+}
+
+/// Lists of the lost alone, on rings where packets are lost after many hops.
+#[test]
+fn the_lost_of_leaky_rings() {
+    let [compared, far]: [Seen; 2] = Default::default();
+    cases(720_000, 1000, |rng| {
+        let mut made = leaky_ring(rng);
+        made.fabric.openflow = OpenFlow::V1_0;
+        let asked = small_query(rng, &made).of_the_lost();
+        let Some(events) = ternary::events(&made.fabric, &asked, MOST_EVENTS) else {
+            return;
+        };
+        check_budgets(&made.fabric, &asked, &events);
+        compared.count(events.len() > 20);
+        let is_far = |event: &Event| match event {
+            Event::Unit => false,
+            Event::Find { entries, .. } => entries.len() >= 4,
+        };
+        far.count(events.iter().any(is_far));
+    });
+    compared.at_least(500);
+    far.at_least(100);
 }
 
 /// Many beaters, of which few meet.
@@ -87,6 +124,9 @@ fn crowded_in_ports() {
     cases(710_000, 1000, |rng| {
         let made = crowded(rng);
         let asked = small_query(rng, &made);
+        if !is_in_range(&made.fabric, &asked) {
+            return;
+        }
         if let Some(events) = ternary::events(&made.fabric, &asked, MOST_EVENTS) {
             check_budgets(&made.fabric, &asked, &events);
             compared.count(events.len() > 20);

@@ -5,16 +5,17 @@ mod common;
 use std::ops::ControlFlow;
 
 use common::answer;
+use reference::calls::count;
 use reference::file::{read, write};
 use reference::index::Index;
 use reference::random::{
     any, audited, beater_chain, campus, cases, crowded, dead_ends, deep_ring, denies_on_fields,
-    every_beater_meets, largest, no_beater_meets, random_denies, random_transit, replies, ring,
-    routed_campus, small, small_ring, switches, ties, tiny, twenty_denies, wild_under_denies,
-    Benchmark, Rng, Small,
+    every_beater_meets, largest, leaky_ring, list_query, lost_packets, no_beater_meets, query,
+    random_denies, random_transit, replies, ring, routed_campus, small, small_query, small_ring,
+    switches, ties, tiny, twenty_denies, wild_under_denies, Benchmark, Rng, Small,
 };
-use reference::trace::trace;
-use reference::{list, verdict, Entry, Fabric, Query, Set, Transfer};
+use reference::trace::{trace, NOWHERE};
+use reference::{list, verdict, Entry, Fabric, OpenFlow, Query, Set, Transfer};
 
 type Make = fn(&mut Rng) -> Fabric;
 
@@ -82,12 +83,13 @@ fn has_equals(fabric: &Fabric) -> bool {
     })
 }
 
-const GENERATORS: [(&str, Make); 11] = [
+const GENERATORS: [(&str, Make); 12] = [
     ("tiny", |rng| tiny(rng).fabric),
     ("small", |rng| small(rng).fabric),
     ("ties", |rng| ties(rng).fabric),
     ("dead ends", |rng| dead_ends(rng).fabric),
     ("small ring", |rng| small_ring(rng).fabric),
+    ("leaky ring", |rng| leaky_ring(rng).fabric),
     ("crowded", |rng| crowded(rng).fabric),
     ("switches", switches),
     ("ring", ring),
@@ -97,7 +99,7 @@ const GENERATORS: [(&str, Make); 11] = [
 ];
 
 /// How many of 300 fabrics are such.
-fn count(make: Make, is_such: fn(&Fabric) -> bool) -> usize {
+fn such(make: Make, is_such: fn(&Fabric) -> bool) -> usize {
     let fabrics = (0..300).map(|seed| make(&mut Rng::new(seed)));
     fabrics.filter(is_such).count()
 }
@@ -106,7 +108,7 @@ fn count(make: Make, is_such: fn(&Fabric) -> bool) -> usize {
 #[test]
 fn equals_and_none() {
     for (name, make) in GENERATORS {
-        let with_equals = count(make, has_equals);
+        let with_equals = such(make, has_equals);
         let expected = match name {
             "ties" => 225..=299,
             _ => 75..=225,
@@ -125,10 +127,10 @@ fn has(fabric: &Fabric, transfer: Transfer) -> bool {
 #[test]
 fn transfers_and_none() {
     for (name, make) in GENERATORS {
-        let both = count(make, |made| {
+        let both = such(make, |made| {
             has(made, Transfer::Copy) && has(made, Transfer::Swap)
         });
-        let none = count(make, |made| {
+        let none = such(make, |made| {
             !has(made, Transfer::Copy) && !has(made, Transfer::Swap)
         });
         let few = if name == "tiny" { 20 } else { 75 };
@@ -139,10 +141,73 @@ fn transfers_and_none() {
     }
 }
 
+/// Each generator makes many fabrics under OpenFlow 1.0, and many under 1.3.
+#[test]
+fn old_and_new_misses() {
+    for (name, make) in GENERATORS {
+        let new = such(make, |made| made.openflow == OpenFlow::V1_3);
+        assert!((50..=100).contains(&new), "{name}: {new}");
+    }
+}
+
+/// Whether a packet is lost after so many hops or more, whatever its header.
+fn is_lost_after(fabric: &Fabric, hops: usize) -> bool {
+    let mut found = false;
+    let index = Index::new(fabric);
+    trace(&index, NOWHERE, 16, Set::ALL_WILD, 20_000, |find| {
+        found |= find.entries.len() >= hops;
+        match found {
+            true => ControlFlow::Break(()),
+            false => ControlFlow::Continue(()),
+        }
+    });
+    found
+}
+
+/// Most fabrics lose packets at once, many after two hops; a whole ring none.
+#[test]
+fn packets_are_lost() {
+    let of = |make: Make| {
+        let at_once = such(make, |made| is_lost_after(made, 0));
+        (at_once, such(make, |made| is_lost_after(made, 2)))
+    };
+    assert_eq!(of(|rng| small_ring(rng).fabric), (0, 0));
+    for (make, least) in [(any as Make, 30), (|rng| leaky_ring(rng).fabric, 100)] {
+        let (at_once, far) = of(make);
+        assert!(at_once > 200 && far >= least, "{at_once}, {far}");
+    }
+}
+
+/// Of 3,000 queries of a list one in six is of the lost, and few of a verdict.
+#[test]
+fn queries_of_the_lost() {
+    let share = |ask: fn(&mut Rng) -> Query| {
+        let queries = (0..3000).map(|seed| ask(&mut Rng::new(seed)));
+        queries.filter(Query::is_of_the_lost).count()
+    };
+    let of_list = share(|rng| {
+        let made = any(rng);
+        list_query(rng, &made, 100)
+    });
+    let of_small = share(|rng| {
+        let made = small(rng);
+        small_query(rng, &made)
+    });
+    let of_verdict = share(|rng| {
+        let made = any(rng);
+        query(rng, &made, 100)
+    });
+    assert!((450..=750).contains(&of_list), "{of_list}");
+    assert!((400..=600).contains(&of_small), "{of_small}");
+    assert!((50..=250).contains(&of_verdict), "{of_verdict}");
+}
+
 /// Copies and swaps move none of a small fabric's bits elsewhere.
 #[test]
 fn small_fabrics_have_the_same_bits_of_both_addresses() {
-    let makes: [fn(&mut Rng) -> Small; 6] = [tiny, small, ties, dead_ends, small_ring, crowded];
+    let makes: [fn(&mut Rng) -> Small; 7] = [
+        tiny, small, ties, dead_ends, small_ring, leaky_ring, crowded,
+    ];
     for make in makes {
         cases(920_000, 200, |rng| {
             let bits = make(rng).bits;
@@ -197,6 +262,19 @@ fn the_benchmarks() {
     assert_eq!(most_hops(&routed_campus().fabric), 16);
     assert_eq!(measure(random_denies(), 1 << 20), (500, 111_749, 9821));
     assert_eq!(measure(random_transit(), 1 << 20), (500, 292_016, 659));
+}
+
+/// Units and finds of the lists of the lost that time is measured with.
+#[test]
+fn the_benchmarks_of_the_lost() {
+    let measured = lost_packets().map(|Benchmark { fabric, query, .. }| {
+        assert!(query.is_of_the_lost());
+        let listed = answer(list, &write(&fabric), 6 << 20, &query).unwrap();
+        // No packet has made a hop: each find is nine words.
+        (count(&fabric, &query), listed.len())
+    });
+    let expected = [(Some(5_718_676), 9 * 147_888), (Some(244_345), 9)];
+    assert_eq!(measured, expected);
 }
 
 #[test]

@@ -3,7 +3,7 @@
 use reference::examples::{fabric_f, many_finds, run_query, wild_query};
 use reference::file::write;
 use reference::query::{input, print, LIST, RUN, VERDICT};
-use reference::random::{any, cases, damage, query};
+use reference::random::{any, cases, damage, list_query};
 
 #[test]
 fn question_14_comes_before_all() {
@@ -87,7 +87,7 @@ fn the_list_has_65_536_bytes() {
 fn any_input_has_an_answer() {
     cases(800_000, 1500, |rng| {
         let fabric = any(rng);
-        let asked = query(rng, &fabric, 1000);
+        let asked = list_query(rng, &fabric, 1000);
         let mut file = write(&fabric);
         if rng.once_in(4) {
             file = damage(&file, rng);

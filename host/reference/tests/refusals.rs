@@ -44,12 +44,21 @@ fn question_1_length() {
 #[test]
 fn question_2_start() {
     let of = |start| refusal_of_bytes(&to_le_bytes(&[start, END]));
+    // Bit 27 may be either: it chooses between OpenFlow 1.0 and 1.3.
     assert_eq!(of(0x10010002), None);
-    for start in [0x10010001, 0x10010003, 0x10000002, 0x10020002, 0x18010002] {
+    assert_eq!(of(0x18010002), None);
+    for start in [0x10010001, 0x10010003, 0x10000002, 0x10020002, 0x14010002] {
         assert_eq!(of(start), Some((2, 0)), "start {start:x}");
+        let under_1_3 = start | 1 << 27;
+        assert_eq!(of(under_1_3), Some((2, 0)), "start {under_1_3:x}");
     }
     for kind in [0, 2, 3, 4, 5, 6, 9, 15] {
         assert_eq!(of(kind << 28 | 0x10002), Some((2, 0)), "kind {kind}");
+    }
+    // The version is the eleven bits below it.
+    for upper in 0..=0xffff {
+        let refusal = (upper != 0x1001 && upper != 0x1801).then_some((2, 0));
+        assert_eq!(of(upper << 16 | 2), refusal, "start {upper:x}");
     }
 }
 
@@ -350,7 +359,12 @@ fn questions_8_to_13_in_turn() {
 #[test]
 fn questions_8_and_11_edge_ports() {
     let file = write(&fabric(&[edge(1, 5)], &[link(1, 2)], &[entry(0, 5, 1)]));
-    for port in [0, 1, 2, 4, 6, 5 + 4096, 5 + 65_536, u32::MAX] {
+    let of_the_lost = wild_query(0, 1, 9);
+    assert_eq!(answer(verdict, &file, 96, &of_the_lost), Err((8, 0)));
+    assert!(answer(list, &file, 96, &of_the_lost).is_ok());
+    let from_0 = run_query(0, 1, [0; 4]);
+    assert_eq!(answer(run, &file, 96, &from_0), Err((11, 0)));
+    for port in [1, 2, 4, 6, 4096, 5 + 4096, 65_536, 5 + 65_536, u32::MAX] {
         for call in [verdict, list] {
             let got = answer(call, &file, 96, &wild_query(port, 1, 9));
             assert_eq!(got, Err((8, 0)));

@@ -6,7 +6,7 @@ use common::{answer, filled, Seen};
 use reference::examples::{edge, entry, fabric, link, run_query, to_tp_dst, tp_dst};
 use reference::file::write;
 use reference::random::{any, cases, packet};
-use reference::ways::{Packet, TIED};
+use reference::ways::{Packet, DROPPED, LOST, TIED};
 use reference::{run, Entry, Fabric, Set, Transfer};
 
 /// Edges 1 and 2; links 10 to 11, 12 to 13, 14 to 15.
@@ -150,7 +150,7 @@ fn sixteen_hops_round_a_ring() {
 /// where these are few enough to be looked at.
 #[test]
 fn runs_agree_with_naive_forwarding() {
-    let [tied, moved]: [Seen; 2] = Default::default();
+    let [tied, moved, lost, missed]: [Seen; 4] = Default::default();
     cases(10_000, 2000, |rng| {
         let fabric = any(rng);
         let file = write(&fabric);
@@ -169,8 +169,12 @@ fn runs_agree_with_naive_forwarding() {
             let transfer = |&entry: &u32| fabric.entries[entry as usize].transfer;
             let taken = &words[8..][..words[3] as usize];
             moved.count(taken.iter().any(|entry| transfer(entry) != Transfer::None));
+            let drops = |&entry: &u32| fabric.entries[entry as usize].out_port == 0;
+            lost.count(words[0] == LOST);
+            missed.count(words[0] == DROPPED && !taken.last().is_some_and(drops));
         }
     });
-    tied.at_least(2000);
-    moved.at_least(2000);
+    for seen in [tied, moved, lost, missed] {
+        seen.at_least(2000);
+    }
 }

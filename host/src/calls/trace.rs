@@ -35,7 +35,8 @@ pub fn verdict(file: &[u8], query: &Query) -> Result<Verdict, Refusal> {
 }
 
 /// Every header that arrives at the target under some choice among entries of the
-/// same priority, as finds in the area lent.
+/// same priority, as finds in the area lent. A target may be
+/// [`Target::Lost`](crate::Target::Lost): every header that is lost.
 ///
 /// ```
 /// use mwishovala::{list, text, Query};

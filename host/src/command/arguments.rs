@@ -109,9 +109,9 @@ pub(super) fn parse(words: Vec<OsString>) -> Result<Order, Failure> {
 
 fn order(command: &Command, given: &mut Given) -> Result<Order, Failure> {
     Ok(match command.name {
-        "verdict" => Order::Verdict(given.trace()?),
+        "verdict" => Order::Verdict(given.verdict()?),
         "gate" => Order::Gate(given.gate()?),
-        "list" => Order::List(given.trace()?),
+        "list" => Order::List(given.list()?),
         "run" => Order::Run(given.packet()?),
         "audit" => Order::Audit(given.audit()?),
         "show" => Order::Show(given.source()?),
@@ -172,9 +172,20 @@ impl Given {
         })
     }
 
-    fn trace(&mut self) -> Result<Trace, Failure> {
+    fn verdict(&mut self) -> Result<Trace, Failure> {
         let file = self.source()?;
         let target = self.port()?;
+        self.trace(file, target)
+    }
+
+    /// A list's target may be what is lost.
+    fn list(&mut self) -> Result<Trace, Failure> {
+        let file = self.source()?;
+        let target = self.target()?;
+        self.trace(file, target.number())
+    }
+
+    fn trace(&mut self, file: Source, target: u32) -> Result<Trace, Failure> {
         Ok(Trace {
             file,
             query: self.query(target)?,

@@ -12,6 +12,7 @@ use super::loaded::Loaded;
 use super::manual::VERSION;
 use super::{describe, threads, Failure, Output, DONE};
 use crate::calls::verdict;
+use crate::openflow::OpenFlow;
 use crate::query::Query;
 use crate::record::Entry;
 use crate::takers::Hop;
@@ -41,7 +42,11 @@ pub(super) fn dot(picture: &Picture, out: Output) -> Result<u8, Failure> {
     let text = match picture.query {
         None => {
             let (file, digest) = (&loaded.name, loaded.digest);
-            let said = format!("// {file}, sha256 {digest}, by mwishovala {VERSION}\n");
+            let openflow = match loaded.fabric.openflow {
+                OpenFlow::V1_0 => String::new(),
+                openflow => format!(", {openflow}"),
+            };
+            let said = format!("// {file}, sha256 {digest}{openflow}, by mwishovala {VERSION}\n");
             said + &draw(&loaded, None)
         }
         Some(query) => {

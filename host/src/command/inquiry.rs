@@ -7,7 +7,8 @@ use super::manual::VERSION;
 use super::{describe, Failure, Output};
 use crate::header::{Header, HeaderSet};
 use crate::limits::MOST_HOPS;
-use crate::query::Query;
+use crate::openflow::OpenFlow;
+use crate::query::{Query, Target};
 use crate::refusal::{Question, Refusal};
 
 /// What 'isolated', or any other answer, is about.
@@ -58,6 +59,11 @@ impl Inquiry<'_> {
         }
     }
 
+    /// What is lost has a hop left: it made fewer than the limit.
+    fn is_about_lost(&self) -> bool {
+        matches!(&self.asked, Asked::Target(query) if query.target() == Target::Lost)
+    }
+
     /// Where links could lead further than the hops asked about.
     fn further(&self) -> String {
         let fabric = &self.loaded.fabric;
@@ -99,7 +105,11 @@ impl Inquiry<'_> {
                 narrowings.push(format!("for headers {}", query.asked));
             }
             if query.hops != MOST_HOPS {
-                narrowings.push(format!("within {}", describe::hops(query.hops)));
+                let hops = describe::hops(query.hops);
+                narrowings.push(match self.is_about_lost() {
+                    true => format!("after fewer than {hops}"),
+                    false => format!("within {hops}"),
+                });
             }
         }
         narrowings
@@ -109,9 +119,10 @@ impl Inquiry<'_> {
     pub(super) fn lines(&self) -> Vec<String> {
         let (file, digest) = (&self.loaded.name, self.loaded.digest);
         let mut lines = vec![("fabric", format!("{file}, sha256 {digest}"))];
+        lines.extend(self.openflow().map(|said| ("openflow", said)));
         lines.extend(match &self.asked {
             Asked::Target(query) => vec![
-                ("target", format!("port {}", self.loaded.port(query.port))),
+                ("target", self.target(query)),
                 ("headers", query.asked.to_string()),
             ],
             Asked::EveryTarget(query) => vec![
@@ -124,7 +135,11 @@ impl Inquiry<'_> {
             ],
         });
         let further = self.further();
-        lines.push(("hops", format!("at most {}{further}", self.hops())));
+        let limit = match self.is_about_lost() {
+            true => "fewer than",
+            false => "at most",
+        };
+        lines.push(("hops", format!("{limit} {}{further}", self.hops())));
         if let Some(query) = self.query() {
             lines.push(("budget", format!("{} units", query.budget)));
         }
@@ -134,6 +149,21 @@ impl Inquiry<'_> {
         lines
             .map(|(name, value)| format!("{name:<8} {value}"))
             .collect()
+    }
+
+    /// What is said of an OpenFlow that isn't 1.0.
+    fn openflow(&self) -> Option<String> {
+        match self.loaded.fabric.openflow {
+            OpenFlow::V1_0 => None,
+            OpenFlow::V1_3 => Some("1.3: a packet that no entry takes is dropped".into()),
+        }
+    }
+
+    fn target(&self, query: &Query) -> String {
+        match query.target() {
+            Target::Port(port) => format!("port {}", self.loaded.port(port)),
+            Target::Lost => "what is lost: no entry takes it".into(),
+        }
     }
 
     /// What follows the answer in words.

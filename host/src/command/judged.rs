@@ -7,7 +7,7 @@ use crate::calls;
 use crate::fabric::Fabric;
 use crate::frame::{instead, misfits, Misfit};
 use crate::header::Header;
-use crate::query::Query;
+use crate::query::{Query, Target};
 use crate::refusal::Refusal;
 use crate::takers::Hop;
 use crate::verdict::Verdict;
@@ -109,9 +109,14 @@ pub(super) fn way(fabric: &Fabric, header: &Header, entries: &[u16]) -> Result<V
     fabric.hops(header, entries).ok_or_else(Refusal::unknown)
 }
 
-/// Whether links could lead to the query's target in more hops than it asks
-/// about.
+/// Whether links could lead to the query's target, or to where packets may be
+/// lost, in more hops than it asks about.
 pub(super) fn leads_further(fabric: &Fabric, query: &Query) -> bool {
-    let target = u16::try_from(query.port);
-    target.is_ok_and(|target| fabric.leads_further(target, query.hops))
+    match query.target() {
+        Target::Lost => fabric.leads_on(query.hops),
+        Target::Port(port) => {
+            let target = u16::try_from(port);
+            target.is_ok_and(|target| fabric.leads_further(target, query.hops))
+        }
+    }
 }

@@ -1,12 +1,14 @@
 //! `mwishovala list`. Finds are written one after the other: there may be
 //! millions.
 
+mod lost;
+
 use std::io;
 
 use super::arguments::Trace;
 use super::foreign::Share;
 use super::inquiry::{Asked, Inquiry};
-use super::json::{self, Json};
+use super::json::{self, Json, Members};
 use super::judged::leads_further;
 use super::loaded::Loaded;
 use super::table::table;
@@ -14,7 +16,7 @@ use super::{describe, threads, Failure, Output, DONE};
 use crate::calls::list_growing;
 use crate::equals::Equals;
 use crate::finds::{Find, Finds};
-use crate::query::Query;
+use crate::query::{Query, Target};
 
 /// The most bytes that a list may take.
 const MOST_AREA: usize = 256 << 20;
@@ -25,31 +27,44 @@ pub(super) fn list(trace: &Trace, out: Output) -> Result<u8, Failure> {
     let mut area = Vec::new();
     let finds = threads::call(|| list_growing(&loaded.bytes, &mut area, MOST_AREA, &trace.query))?
         .map_err(|refusal| inquiry.refused(refusal))?;
-    let target = trace.query.port;
     match trace.json {
         true => in_json(out, &inquiry, &trace.query, finds)?,
-        false => in_words(out, &inquiry, target, finds)?,
+        false => in_words(out, &inquiry, trace.query.target(), finds)?,
     }
     Ok(DONE)
 }
 
-fn in_words(out: Output, inquiry: &Inquiry, target: u32, finds: Finds) -> io::Result<()> {
+fn in_words(out: Output, inquiry: &Inquiry, target: Target, finds: Finds) -> io::Result<()> {
     let loaded = inquiry.loaded;
-    let (port, only) = (loaded.port(target), inquiry.only());
+    let only = inquiry.only();
+    let (nothing, of_what) = match target {
+        Target::Port(port) => {
+            let port = loaded.port(port);
+            let nothing = format!("nothing gets out at port {port}");
+            (nothing, format!("at port {port}"))
+        }
+        Target::Lost => ("nothing is lost".into(), "of packets that are lost".into()),
+    };
     match finds.clone().count() {
-        0 => writeln!(out, "nothing gets out at port {port}{only}")?,
+        0 => writeln!(out, "{nothing}{only}")?,
         count => {
             let count = describe::counted(count, "find", "finds");
-            writeln!(out, "{count} at port {port}{only}\n")?;
+            writeln!(out, "{count} {of_what}{only}\n")?;
             let equals = Equals::of(&loaded.fabric);
-            let rows = finds
-                .clone()
-                .map(|find| row(loaded, target, &equals, &find));
-            table(out, HEADING, rows)?;
-            let has_choice = |find: Find| equals.along(&find).iter().any(|at| !at.is_empty());
-            if finds.clone().any(has_choice) {
-                writeln!(out, "\n{OR}")?;
-            }
+            let rows = finds.clone();
+            match target {
+                Target::Port(port) => table(
+                    out,
+                    HEADING,
+                    rows.map(|find| row(loaded, port, &equals, &find)),
+                ),
+                Target::Lost => table(
+                    out,
+                    lost::HEADING,
+                    rows.map(|find| lost::row(loaded, &equals, &find)),
+                ),
+            }?;
+            notes(out, loaded, target, &equals, finds)?;
         }
     }
     inquiry.in_words(out)
@@ -57,6 +72,24 @@ fn in_words(out: Output, inquiry: &Inquiry, target: u32, finds: Finds) -> io::Re
 
 /// What stands behind an entry after 'or'.
 const OR: &str = "or: of the same priority, and might take these packets too, or some of them";
+
+/// What the words in the table mean that need it.
+fn notes(
+    out: Output,
+    loaded: &Loaded,
+    target: Target,
+    equals: &Equals,
+    mut finds: Finds,
+) -> io::Result<()> {
+    let has_choice = |find: Find| equals.along(&find).iter().any(|at| !at.is_empty());
+    if finds.clone().any(has_choice) {
+        writeln!(out, "\n{OR}")?;
+    }
+    if target == Target::Lost && finds.any(|find| lost::has_others(loaded, &find)) {
+        writeln!(out, "\n{}", lost::WITHIN)?;
+    }
+    Ok(())
+}
 
 const HEADING: [&str; 6] = ["from", "group", "whose", "hops", "entries", "headers"];
 
@@ -68,8 +101,6 @@ fn whose(loaded: &Loaded, target: u32, find: &Find) -> Option<(u16, Share)> {
 }
 
 fn row(loaded: &Loaded, target: u32, equals: &Equals, find: &Find) -> [String; 6] {
-    let entries = find.entries.iter().zip(equals.along(find));
-    let entries = entries.map(|(entry, equals)| format!("{entry}{}", describe::or(&equals)));
     let (group, share) = match whose(loaded, target, find) {
         Some((group, share)) => (group.to_string(), share.name()),
         None => ("-".into(), "-"),
@@ -79,13 +110,20 @@ fn row(loaded: &Loaded, target: u32, equals: &Equals, find: &Find) -> [String; 6
         group,
         share.into(),
         find.hops.to_string(),
-        describe::listed(entries),
+        entries(equals, find),
         find.set.to_string(),
     ]
 }
 
+/// The entries of a find, each with the others that might take its packets.
+fn entries(equals: &Equals, find: &Find) -> String {
+    let entries = find.entries.iter().zip(equals.along(find));
+    describe::listed(entries.map(|(entry, equals)| format!("{entry}{}", describe::or(&equals))))
+}
+
 fn in_json(out: Output, inquiry: &Inquiry, query: &Query, finds: Finds) -> io::Result<()> {
-    let further = leads_further(&inquiry.loaded.fabric, query);
+    let loaded = inquiry.loaded;
+    let further = leads_further(&loaded.fabric, query);
     let mut members = inquiry.in_json();
     members.push(("further", Json::Truth(further)));
     out.write_all(b"{")?;
@@ -93,26 +131,34 @@ fn in_json(out: Output, inquiry: &Inquiry, query: &Query, finds: Finds) -> io::R
         write!(out, "{}:{value},", json::text(name))?;
     }
     out.write_all(b"\"finds\":[")?;
-    let equals = Equals::of(&inquiry.loaded.fabric);
+    let equals = Equals::of(&loaded.fabric);
     for (place, find) in finds.enumerate() {
-        let find = find_in_json(inquiry.loaded, query.port, &equals, &find);
+        let find = match query.target() {
+            Target::Port(port) => find_in_json(loaded, port, &equals, &find),
+            Target::Lost => lost::in_json(loaded, &equals, &find),
+        };
         write!(out, "{}{find}", json::comma(place))?;
     }
     out.write_all(b"]}\n")
 }
 
 fn find_in_json(loaded: &Loaded, target: u32, equals: &Equals, find: &Find) -> Json {
-    let equals = equals.along(find).into_iter();
     let mut members = vec![("port", json::number(find.port))];
     if let Some((group, share)) = whose(loaded, target, find) {
         members.push(("group", json::number(group)));
         members.push(("whose", json::text(share.name())));
     }
-    members.extend([
+    members.extend(way_in_json(equals, find));
+    Json::Object(members)
+}
+
+/// The way of a find, and its headers.
+fn way_in_json(equals: &Equals, find: &Find) -> Members {
+    let equals = equals.along(find).into_iter();
+    vec![
         ("hops", json::number(find.hops)),
         ("entries", json::numbers(&find.entries)),
         ("equals", json::list(equals.map(|at| json::numbers(&at)))),
         ("headers", json::set(&find.set)),
-    ]);
-    Json::Object(members)
+    ]
 }

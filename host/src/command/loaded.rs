@@ -5,6 +5,7 @@ use crate::digest::Digest;
 use crate::fabric::Fabric;
 use crate::limits::MOST_PORT;
 use crate::names::Names;
+use crate::openflow::OpenFlow;
 
 /// It was read once: all that is said of it is about these bytes.
 pub(super) struct Loaded {
@@ -28,7 +29,10 @@ impl Loaded {
     /// The file, and what is named there.
     pub(super) fn in_json(&self) -> Members {
         vec![
-            ("fabric", named(&self.name, &self.digest)),
+            (
+                "fabric",
+                named(&self.name, &self.digest, Some(self.fabric.openflow)),
+            ),
             ("names", self.names_in_json()),
         ]
     }
@@ -49,10 +53,12 @@ impl Loaded {
     }
 }
 
-/// A file by its name and its digest.
-pub(super) fn named(file: &str, digest: &Digest) -> Json {
+/// A file by its name and its digest, and its OpenFlow if it is a fabric.
+pub(super) fn named(file: &str, digest: &Digest, openflow: Option<OpenFlow>) -> Json {
+    let openflow = openflow.map_or(Json::Null, |openflow| json::text(openflow.name()));
     Json::Object(vec![
         ("file", json::text(file)),
         ("sha256", json::text(digest)),
+        ("openflow", openflow),
     ])
 }

@@ -24,6 +24,9 @@ pub(super) fn version() -> String {
 /// The program in a sentence.
 const PROGRAM: &str = "can a foreign packet get out at a port of a switch fabric?";
 
+/// What a list takes in the place of a target port.
+pub(super) const LOST: &str = "lost";
+
 /// What can be asked of the program.
 pub(super) struct Command {
     pub(super) name: &'static str,
@@ -52,6 +55,8 @@ enum Kind {
     File,
     Command,
     Shell,
+    /// A port, or what is lost.
+    Target,
     Other,
 }
 

@@ -2,7 +2,7 @@
 
 use super::arguments::Packet;
 use super::inquiry::{Asked, Inquiry};
-use super::json::{self, Members};
+use super::json::{self, Json, Members};
 use super::judged::way;
 use super::loaded::Loaded;
 use super::{describe, threads, Failure, Output, DONE};
@@ -49,6 +49,10 @@ fn in_words(loaded: &Loaded, run: &Run, way: &[Hop]) -> String {
     let (port, hops) = (loaded.port(run.port), describe::hops(run.hops));
     let fate = match run.fate {
         Fate::Left => format!("left: the packet gets out at port {port} after {hops}"),
+        Fate::Dropped if loaded.fabric.missed(run) => {
+            let openflow = loaded.fabric.openflow;
+            format!("dropped: no entry takes it at port {port}, after {hops}; {openflow} drops it")
+        }
         Fate::Dropped => format!("dropped: at port {port}, with hop {}", run.hops),
         Fate::Lost => format!("lost: no entry takes it at port {port}, after {hops}"),
         Fate::Travelling => format!("still travelling: to port {port}, after {hops}"),
@@ -81,6 +85,7 @@ fn in_json(loaded: &Loaded, run: &Run, way: &[Hop]) -> Members {
         ("hops", json::number(run.hops)),
         ("header", json::header(&run.header)),
         ("tied", json::numbers(&tied(loaded, run))),
+        ("missed", Json::Truth(loaded.fabric.missed(run))),
         ("path", json::path(way)),
     ]
 }

@@ -92,7 +92,7 @@ impl Source {
             }),
             Err(refusal) => Err(Failure::Refused {
                 file: self.name(),
-                about: vec![("fabric", named(&self.name(), &Digest::of(&bytes)))],
+                about: vec![("fabric", named(&self.name(), &Digest::of(&bytes), None))],
                 refusal: match looks_like_text(&bytes, &refusal) {
                     true => Refusal {
                         reason: format!("{}; it looks like text: pack it first", refusal.reason),

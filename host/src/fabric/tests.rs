@@ -1,6 +1,7 @@
 //! What is read is all that a file says, or it isn't read.
 
 use super::Fabric;
+use crate::openflow::OpenFlow;
 use crate::record::Record;
 use crate::text;
 use crate::words::Words;
@@ -39,11 +40,11 @@ fn no_bit_is_lost_in_reading() {
     }
 }
 
-/// The bits that are zero today.
+/// The bits that are zero today, and a start's version.
 #[test]
 fn bits_without_a_meaning_are_not_read() {
     let zero_bits = [
-        (START, 16..28),
+        (START, 16..27),
         (LINK, 24..28),
         (SECOND, 12..28),
         (END, 0..28),
@@ -61,6 +62,24 @@ fn bits_without_a_meaning_are_not_read() {
     for word in [EDGE, ENTRY] {
         assert!(Fabric::whole(&with_bit(&file, word, 27)).is_some());
     }
+}
+
+/// The bit above the version chooses OpenFlow 1.3. It is read, and written again.
+#[test]
+fn a_start_chooses_an_openflow() {
+    let file = text::pack(TEXT).unwrap();
+    let chosen = with_bit(&file, START, 27);
+    for (file, openflow) in [(&file, OpenFlow::V1_0), (&chosen, OpenFlow::V1_3)] {
+        let fabric = Fabric::read(file).unwrap();
+        assert_eq!(fabric.openflow, openflow);
+        assert_eq!(&fabric.to_bytes().unwrap(), file);
+        assert_eq!(Fabric::before(Words(file), START).openflow, openflow);
+    }
+    let other = Fabric {
+        openflow: OpenFlow::V1_3,
+        ..Fabric::read(&file).unwrap()
+    };
+    assert_eq!(other.to_bytes().unwrap(), chosen);
 }
 
 /// None, copy and swap are; what else has room there isn't.

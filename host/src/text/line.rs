@@ -25,8 +25,9 @@ impl<'t> Line<'t> {
             "entry" => entry,
             other => {
                 let said = quoted(other);
-                let message =
-                    format!("{said}: a line is an edge, a link, an entry, a name or a switch");
+                let message = format!(
+                    "{said}: a line is openflow, an edge, a link, an entry, a name or a switch"
+                );
                 return Err(first.wrong(message));
             }
         };

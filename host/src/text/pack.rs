@@ -3,6 +3,7 @@
 use super::line::Line;
 use super::lines::lines;
 use super::names::begins_a_name;
+use super::openflow::Choice;
 use super::sentence::Sentence;
 use super::token::Token;
 use super::Wrong;
@@ -45,17 +46,22 @@ pub struct Packed {
 /// ```
 pub fn pack_named(text: &str) -> Result<Packed, Wrong> {
     let (mut said, mut names) = (Vec::new(), Names::default());
+    let mut choice = Choice::default();
     for line in lines(text) {
         let mut words = Sentence::new(line?);
         match words.next() {
             Some(first) if begins_a_name(&first) => names.add(&first, &mut words)?,
+            Some(first) if Choice::begins(&first) => {
+                choice.make(&first, &mut words, said.is_empty())?;
+            }
             Some(first) => said.push(Line::parse(first, &mut words)?),
             None => (),
         }
     }
     said.sort_by_key(|line| in_file_order(&line.record));
     let records = said.iter().map(|line| line.record);
-    let file = file_of(records).map_err(|error| too_long(&said, error.to_string()))?;
+    let file =
+        file_of(choice.openflow(), records).map_err(|error| too_long(&said, error.to_string()))?;
     match accept(&file) {
         Ok(()) => Ok(Packed { file, names }),
         Err(refusal) => Err(wrong(&said, &refusal)),

@@ -6,14 +6,18 @@ use crate::action::Transfer;
 use crate::fabric::Fabric;
 use crate::header::HeaderSet;
 use crate::names::Names;
+use crate::openflow::OpenFlow;
 use crate::record::Entry;
+
+use super::openflow::OPENFLOW;
 
 /// The same as [`show`], and a line for each name.
 pub fn show_named(fabric: &Fabric, names: &Names) -> String {
     format!("{}{names}", show(fabric))
 }
 
-/// A line for each edge, link and entry; packing it gives the fabric's file.
+/// A line for each edge, link and entry, and before them one for an OpenFlow that
+/// isn't 1.0; packing it gives the fabric's file.
 pub fn show(fabric: &Fabric) -> String {
     let (edges, links, entries) = (&fabric.edges, &fabric.links, &fabric.entries);
     let mut text = format!(
@@ -22,6 +26,9 @@ pub fn show(fabric: &Fabric) -> String {
         count(links.len(), "link", "links"),
         count(entries.len(), "entry", "entries"),
     );
+    if fabric.openflow != OpenFlow::default() {
+        let _ = writeln!(text, "{OPENFLOW} {}", fabric.openflow.name());
+    }
     for edge in edges {
         let (port, group, admitted) = (edge.port, edge.group, edge.admitted);
         let _ = writeln!(text, "edge {port} group {group} admits {admitted}");

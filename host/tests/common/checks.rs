@@ -4,12 +4,12 @@
 use std::cell::Cell;
 use std::thread;
 
-use super::{agreed, Call};
+use super::{agreed, fresh, product_alone, Call};
 use mwishovala::limits;
 use reference::examples::{fabric_f, linked, replies_behind_a_link};
 use reference::file::write;
-use reference::random::{any, cases, damage, deep_ring, inflict, query, Damage, Rng};
-use reference::{Fabric, Query, Transfer};
+use reference::random::{any, cases, damage, deep_ring, inflict, Damage, Rng};
+use reference::{Query, Transfer};
 
 /// Damaged in each way, some of them once more at random.
 pub fn damaged_files(call: Call, first: u64, length: fn(&mut Rng) -> usize) {
@@ -20,7 +20,7 @@ pub fn damaged_files(call: Call, first: u64, length: fn(&mut Rng) -> usize) {
             if rng.once_in(3) {
                 file = damage(&file, rng);
             }
-            let asked = query(rng, &fabric, 2000);
+            let asked = (call.query)(rng, &fabric, 2000);
             let _ = agreed(call, &file, length(rng), &asked);
         });
     }
@@ -30,6 +30,7 @@ pub fn damaged_files(call: Call, first: u64, length: fn(&mut Rng) -> usize) {
 /// gives the count if the query, with a budget of `most`, gets an answer. Gives
 /// how many counts were above 0.
 pub fn budgets_around_the_count(
+    call: Call,
     seeds: (u64, u64),
     most: u32,
     count: fn(&[u8], &Query) -> Option<u32>,
@@ -41,7 +42,7 @@ pub fn budgets_around_the_count(
         let file = write(&fabric);
         let asked = Query {
             budget: most,
-            ..query(rng, &fabric, 1)
+            ..(call.query)(rng, &fabric, 1)
         };
         let Some(count) = count(&file, &asked) else {
             return;
@@ -70,19 +71,15 @@ pub fn with_little_stack(call: Call, room: usize) -> u64 {
 }
 
 /// The library keeps nothing between calls: threads don't disturb each other.
-pub fn calls_at_the_same_time(
-    call: Call,
-    seeds: (u64, u64),
-    lent: usize,
-    ask: fn(&mut Rng, &Fabric) -> Query,
-) {
+pub fn calls_at_the_same_time(call: Call, seeds: (u64, u64), lent: usize) {
     thread::scope(|scope| {
         for number in 0..4 {
             scope.spawn(move || {
                 cases(seeds.0 + 1000 * number, seeds.1, |rng| {
                     let fabric = any(rng);
                     let file = write(&fabric);
-                    let _ = agreed(call, &file, lent, &ask(rng, &fabric));
+                    let asked = (call.query)(rng, &fabric, 20_000);
+                    let _ = agreed(call, &file, lent, &asked);
                 });
             });
         }
@@ -113,11 +110,13 @@ pub fn every_bit_matters_alike(call: Call, lent: usize, asked: &Query) {
     }
 }
 
-/// Ports and limits whose low bits would do. `question` is the port's.
+/// Ports and limits whose low bits would do, also for a list of the lost.
+/// `question` is the port's.
 pub fn numbers_out_of_range(call: Call, asked: Query, question: u8) {
     let of = |asked| agreed(call, &fabric_f(), 96, &asked);
     let right = asked.port;
-    for port in [0, 3, right + 4096, right + 65_536, 1 << 31, u32::MAX] {
+    let near = [3, right + 4096, right + 65_536, u32::MAX];
+    for port in near.into_iter().chain([4096, 65_536, 1 << 31]) {
         assert_eq!(of(Query { port, ..asked }), Err((question, 0)));
     }
     for limit in [0, 17, 256 + 1, 65_536 + 1, 1 << 31, u32::MAX] {
@@ -134,6 +133,12 @@ pub fn values_outside_the_care(call: Call, asked: Query) {
         let answer = agreed(call, &fabric_f(), 96, &asked);
         assert_eq!(answer, Err((10, 0)));
     }
+}
+
+/// Both say this no, with place 0, and every lent byte is as it was.
+pub fn refused(call: Call, file: &[u8], lent: usize, asked: &Query, question: u8) {
+    assert_eq!(agreed(call, file, lent, asked), Err((question, 0)));
+    assert!(product_alone(call, file, lent, asked).1 == fresh(lent));
 }
 
 /// What makes a question get a no: a change of the query or of the room.

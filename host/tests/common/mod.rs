@@ -14,6 +14,7 @@ use std::cell::Cell;
 
 use mwishovala::{raw, QUERY_NUMBERS};
 use reference::calls::{read_answer, Answer};
+use reference::random::{list_query, packet, query, Rng};
 use reference::{Fabric, Query, Transfer};
 
 /// One of the three calls, twice.
@@ -23,6 +24,8 @@ pub struct Call {
     pub number: u32,
     product: fn(&[u8], &mut [u8], [u32; QUERY_NUMBERS]) -> u64,
     reference: fn(&[u8], &mut [u8], &Query) -> u64,
+    /// A random query, in range or not, with mostly less than so many units.
+    pub query: fn(&mut Rng, &Fabric, u32) -> Query,
 }
 
 pub const VERDICT: Call = Call {
@@ -30,6 +33,7 @@ pub const VERDICT: Call = Call {
     number: 1,
     product: raw::verdict,
     reference: reference::verdict,
+    query,
 };
 
 pub const LIST: Call = Call {
@@ -37,6 +41,7 @@ pub const LIST: Call = Call {
     number: 2,
     product: raw::list,
     reference: reference::list,
+    query: list_query,
 };
 
 pub const RUN: Call = Call {
@@ -44,6 +49,7 @@ pub const RUN: Call = Call {
     number: 3,
     product: raw::run,
     reference: reference::run,
+    query: |rng, fabric, _| packet(rng, fabric),
 };
 
 impl Call {

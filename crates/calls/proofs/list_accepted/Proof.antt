@@ -13,11 +13,11 @@ use Rattle.questions.specs.Questions.{firstNo}
 use Rattle.model.specs.Model.{fabricIn}
 use Rattle.events.proofs.ListPlayed.{ListedAll}
 use Rattle.backtrace.specs.Pass.{begin, playedThen}
-use Rattle.calls.specs.Questions.{Query, query, targetQuestions}
-use Rattle.calls.specs.List.{traceAsked, wordsAsked}
-use Rattle.calls.proofs.Asking.{target-yeses}
+use Rattle.calls.specs.Questions.{Query, query, listTarget, traceQuestions}
+use Rattle.calls.specs.List.{listAsked, wordsAsked}
+use Rattle.calls.proofs.Asking.{trace-yeses}
 use Rattle.calls.proofs.Copying.{words-copied}
-use Rattle.calls.proofs.Listing.{withinBudget, few-words, all-listed, through-within, else-over}
+use Rattle.calls.proofs.Listing.{Sized, withinBudget, few-words, all-listed, through-within, else-over}
 use Rattle.calls.proofs.Listing.{first-answered, over-answered, no-room-answered, words-answered}
 use Rattle.calls.proofs.list_accepted.Statement.{statement}
 use Rattle.calls.proofs.list_accepted.Tie as tie
@@ -39,24 +39,28 @@ module _ (c : tie.Else1) where
   abbrev start : tie.Start
   start = c .before .before .before .before
 
-  none : firstNo (targetQuestions (fabricIn (f start)) (q start .port) (q start .limit) (q start .asked)) ≡ 0
+  none : firstNo (traceQuestions (listTarget (fabricIn (f start)) (q start .port)) (q start .limit) (q start .asked)) ≡ 0
   unfolding f q
-  none = sym (c .before .target-no .ensures) ∙ c .if1 .left
+  none = sym (c .before .list-no .ensures) ∙ c .if1 .left
 
-  -- the target is an edge port, and the limit 1 to 16
-  yeses : (fabricIn (f start) .isEdge (q start .port) ≡ true) × ((1 ≤ q start .limit) × (q start .limit ≤ 16))
-  yeses = target-yeses (fabricIn (f start)) (q start .port) (q start .limit) (q start .asked) none
+  -- the target is right, and the limit 1 to 16
+  yeses : (listTarget (fabricIn (f start)) (q start .port) ≡ true) × ((1 ≤ q start .limit) × (q start .limit ≤ 16))
+  yeses = trace-yeses (listTarget (fabricIn (f start)) (q start .port)) (q start .limit) (q start .asked) none
 
   low-budget : q start .budget < 2 ^ 32
   unfolding q
   low-budget = search needs
+
+  sized : Sized 4 (q start .asked)
+  unfolding q
+  sized = (search needs, search needs)
 
 -- the bytes for the first pass
 abbrev own₀ : List ℕ
 own₀ = replicate 16384 0
 
 -- after the first pass
-module _ (p : tie.After-pass) where
+module _ (p : tie.After-list-pass) where
   abbrev before-pass : tie.Else1
   before-pass = p .before .before .before .before .before
 
@@ -64,32 +68,35 @@ module _ (p : tie.After-pass) where
   s = start before-pass
 
   abbrev own : List ℕ
-  own = p .pass .last .1 .0
+  own = p .list-pass .last .1 .0
 
   -- the words that are asked for
   abbrev ws : List ℕ
   ws = wordsAsked (fabricIn (f s)) (q s)
 
-  over : (p .pass .result .status ≡ 0 → ⊥) → withinBudget (f s) (q s) ≡ false
+  over : (p .list-pass .result .status ≡ 0 → ⊥) → withinBudget (f s) (q s) ≡ false
   unfolding f q
-  over = else-over (f s) (q s) (yeses before-pass .1 .1) (low-budget before-pass) own₀ (p .pass .result) own (p .pass .ensures)
+  over =
+      else-over (f s) (q s) (yeses before-pass .1 .1) (low-budget before-pass) (sized before-pass) own₀ (p .list-pass .result) own
+      (p .list-pass .ensures)
 
-  module _ (through : p .pass .result .status ≡ 0) where
+  module _ (through : p .list-pass .result .status ≡ 0) where
     within : withinBudget (f s) (q s) ≡ true
     unfolding f q
     within =
-        through-within (f s) (q s) (yeses before-pass .1 .1) (low-budget before-pass) own₀ (p .pass .result) own
-        (p .pass .ensures) through
+        through-within (f s) (q s) (yeses before-pass .1 .1) (low-budget before-pass) (sized before-pass) own₀ (p .list-pass .result) own
+        (p .list-pass .ensures) through
 
     few : length ws < 2 ^ 45
-    few = few-words (f s) (q s) (yeses before-pass .1 .1) (low-budget before-pass) within
+    few = few-words (f s) (q s) (yeses before-pass .1 .1) (low-budget before-pass) (sized before-pass) within
 
-    listed : ListedAll (begin own₀) (traceAsked (fabricIn (f s)) (q s)) (playedThen (p .pass .result) own)
+    listed : ListedAll (begin own₀) (listAsked (fabricIn (f s)) (q s)) (playedThen (p .list-pass .result) own)
     unfolding f q
     listed =
-        all-listed (f s) (q s) (yeses before-pass .1 .1) (low-budget before-pass) own₀ (p .pass .result) own (p .pass .ensures) within
+        all-listed (f s) (q s) (yeses before-pass .1 .1) (low-budget before-pass) (sized before-pass) own₀ (p .list-pass .result) own
+        (p .list-pass .ensures) within
 
-    words-are : p .pass .result .words ≡ length ws
+    words-are : p .list-pass .result .words ≡ length ws
     words-are = omega (arith, listed .counted)
 
     own-written : length ws ≤ 4096 → own ≡ writtenAt 0 ws own₀
@@ -97,8 +104,8 @@ module _ (p : tie.After-pass) where
 
 -- ---- the needs
 
-target-no-requires : tie.Need-target-no-requires
-target-no-requires c κs = search needs
+list-no-requires : tie.Need-list-no-requires
+list-no-requires c κs = search needs
 
 cast-result : tie.Need-cast-result
 cast-result c = search needs
@@ -107,21 +114,21 @@ returns : tie.Need-returns
 unfolding f q a
 returns c =
     let s = c .before .before .before .before in
-    first-answered (f s) (q s) (a s) _ (c .before .target-no .ensures) (c .if1 .taken)
+    first-answered (f s) (q s) (a s) _ (c .before .list-no .ensures) (c .if1 .taken)
 
 fill-requires : tie.Need-fill-requires
 fill-requires c κs = search needs
 
-slice-aggregate-pass : tie.Need-slice-aggregate-pass
-slice-aggregate-pass c = search needs
+slice-aggregate-list-pass : tie.Need-slice-aggregate-list-pass
+slice-aggregate-list-pass c = search needs
 
-pass-requires : tie.Need-pass-requires
+list-pass-requires : tie.Need-list-pass-requires
 unfolding f q
-pass-requires c κs =
+list-pass-requires c κs =
     let asked = c .before .before .before .before in
     let pre = start asked .pre in
     let index = c .before .before .fill .ensures in
-    (pre .0, (pre .1, (index, (yeses asked .0, (yeses asked .1, λ z. absurd (let y : ⊥ = omega arith in y))))))
+    (pre .0, (pre .1, (index, yeses asked)))
 
 returns-2 : tie.Need-returns-2
 unfolding f q a
@@ -161,14 +168,14 @@ returns-4 c =
     words-answered (f (s p)) (q (s p)) (a (s p)) (none (before-pass p)) (within p through) are (held .before .if3 .left)
     (words-copied (ws p) own₀ (a (s p)) are (own-written p through (omega (arith, held .if4 .taken))) (wrote .copy-words .ensures))
 
-pass-requires-2 : tie.Need-pass-requires-2
+list-pass-requires-2 : tie.Need-list-pass-requires-2
 unfolding f q
-pass-requires-2 c κs =
+list-pass-requires-2 c κs =
     let p = c .before .before .before .before .before .before .before in
     let asked = before-pass p in
     let pre = start asked .pre in
     let index = p .before .before .before .fill .ensures in
-    (pre .0, (pre .1, (index, (yeses asked .0, (yeses asked .1, λ z. absurd (let y : ⊥ = omega arith in y))))))
+    (pre .0, (pre .1, (index, yeses asked)))
 
 mul-result-2 : tie.Need-mul-result-2
 mul-result-2 c =
@@ -189,19 +196,20 @@ returns-5 c =
     let through = passed .if2 .left in
     let are = words-are p through in
     words-answered (f (s p)) (q (s p)) (a (s p)) (none (before-pass p)) (within p through) are (fits .if3 .left)
-    (all-listed (f (s p)) (q (s p)) (yeses (before-pass p) .1 .1) (low-budget (before-pass p)) (a (s p)) (second .pass2 .result)
-    (second .pass2 .last .1 .0) (second .pass2 .ensures) (within p through) .written (omega (arith, fits .if3 .left)))
+    (all-listed (f (s p)) (q (s p)) (yeses (before-pass p) .1 .1) (low-budget (before-pass p)) (sized (before-pass p)) (a (s p))
+    (second .list-pass2 .result)
+    (second .list-pass2 .last .1 .0) (second .list-pass2 .ensures) (within p through) .written (omega (arith, fits .if3 .left)))
 
 pub list-accepted-spec : {M : Type 1} → statement M
 list-accepted-spec =
     tie.close
     (tie.spec
-    target-no-requires
+    list-no-requires
     cast-result
     returns
     fill-requires
-    slice-aggregate-pass
-    pass-requires
+    slice-aggregate-list-pass
+    list-pass-requires
     returns-2
     returns-3
     slice-aggregate-copy-words
@@ -209,7 +217,7 @@ list-accepted-spec =
     mul-result
     same-length
     returns-4
-    pass-requires-2
+    list-pass-requires-2
     mul-result-2
     same-length-2
     returns-5)

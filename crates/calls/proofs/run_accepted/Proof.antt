@@ -117,10 +117,11 @@ returns-2 c =
     let travelled = c .before .before .before .before in
     let none-refused = travelled .before .before in
     let packet = packetRun (F (none-refused .before)) (q (none-refused .before)) in
-    yes-answered _ _ (packetWords packet) (area (none-refused .before)) _ (none none-refused)
-    (words-are-24 packet (travelled .travel .result) (travelled .travel .ensures) (four travelled))
+    yes-answered _ _ (packetWords (F (none-refused .before)) packet) (area (none-refused .before)) _ (none none-refused)
+    (words-are-24 (F (none-refused .before)) packet (travelled .travel .result) (travelled .travel .ensures) (four travelled))
     (c .before .before .put .ensures
-    ∙ ap (λ (l : List ℕ). writtenAt 0 l (area (none-refused .before))) (ap journeyWords (travelled .travel .ensures) ∙ words-same _))
+    ∙ ap (λ (l : List ℕ). writtenAt 0 l (area (none-refused .before)))
+    (ap journeyWords (travelled .travel .ensures) ∙ words-same _ _))
 
 pub run-accepted-spec : {M : Type 1} → statement M
 run-accepted-spec =

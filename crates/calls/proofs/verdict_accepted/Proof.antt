@@ -15,7 +15,7 @@ use Rattle.model.specs.Model.{fabricIn}
 use Rattle.events.specs.Play.{Played}
 use Rattle.calls.specs.Questions.{Query, query}
 use Rattle.calls.specs.Verdict.{verdictWords}
-use Rattle.calls.proofs.Asking.{target-yeses}
+use Rattle.calls.proofs.Asking.{trace-yeses}
 use Rattle.calls.proofs.Judging.{judgedPass, before-trace, no-target, no-room, all-asked, verdict-isolated, made-low, answered-13, answered-reached, answered-isolated}
 use Rattle.calls.proofs.verdict_accepted.Statement.{statement}
 use Rattle.calls.proofs.verdict_accepted.Tie as tie
@@ -41,8 +41,8 @@ module _ (c : tie.Else2) where
   yeses : (fabricIn (f start) .isEdge (start .args .target) ≡ true) × ((1 ≤ start .args .limit) × (start .args .limit ≤ 16))
   unfolding f
   yeses =
-      target-yeses (fabricIn (now (start .args .file))) (start .args .target) (start .args .limit) (setOf (start .args .asked))
-      (sym (c .before .before .target-no .ensures) ∙ c .before .if1 .left)
+      trace-yeses (fabricIn (now (start .args .file)) .isEdge (start .args .target)) (start .args .limit) (setOf (start .args .asked))
+      (sym (c .before .before .verdict-no .ensures) ∙ c .before .if1 .left)
 
   room : 96 ≤ length (a start)
   unfolding a
@@ -54,7 +54,7 @@ module _ (c : tie.Else2) where
 
   none : firstNo (before-trace (f start) (q start) (a start)) ≡ 0
   unfolding f q
-  none = all-asked (f start) (q start) (a start) _ (c .before .before .target-no .ensures) (c .before .if1 .left) room
+  none = all-asked (f start) (q start) (a start) _ (c .before .before .verdict-no .ensures) (c .before .if1 .left) room
 
 -- after the pass
 module _ (p : tie.After-pass) where
@@ -78,21 +78,21 @@ module _ (p : tie.After-pass) where
 
 -- ---- the needs
 
-target-no-requires : tie.Need-target-no-requires
-target-no-requires c κs = search needs
+verdict-no-requires : tie.Need-verdict-no-requires
+verdict-no-requires c κs = search needs
 
 cast-result : tie.Need-cast-result
 cast-result c = search needs
 
 returns : tie.Need-returns
 unfolding f q a
-returns c = let s = c .before .before .before .before in no-target (f s) (q s) (a s) _ (c .before .target-no .ensures) (c .if1 .taken)
+returns c = let s = c .before .before .before .before in no-target (f s) (q s) (a s) _ (c .before .verdict-no .ensures) (c .if1 .taken)
 
 returns-2 : tie.Need-returns-2
 unfolding f q a
 returns-2 c =
     let s = c .before .before .before .before .before in
-    no-room (f s) (q s) (a s) _ (c .before .before .target-no .ensures) (c .before .if1 .left) (c .if2 .taken)
+    no-room (f s) (q s) (a s) _ (c .before .before .verdict-no .ensures) (c .before .if1 .left) (c .if2 .taken)
 
 fill-requires : tie.Need-fill-requires
 fill-requires c κs = search needs
@@ -154,7 +154,7 @@ pub verdict-accepted-spec : {M : Type 1} → statement M
 verdict-accepted-spec =
     tie.close
     (tie.spec
-    target-no-requires
+    verdict-no-requires
     cast-result
     returns
     returns-2

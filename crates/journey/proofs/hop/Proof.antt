@@ -12,7 +12,7 @@ use Rattle.forwarding.specs.Run.{takers}
 use Rattle.model.specs.Model.{fabricIn}
 use Rattle.model.specs.declared.Best.{Best}
 use Rattle.model.proofs.EntryRead.{EntryRead, entry-read, entries-are, words-are}
-use Rattle.journey.proofs.Hops.{hopped-ended, hopped-lost, hopped-tied, hopped-dropped, hopped-left, hopped-on}
+use Rattle.journey.proofs.Hops.{hopped-ended, hopped-missed, hopped-tied, hopped-dropped, hopped-left, hopped-on}
 use Rattle.journey.proofs.hop.Statement.{statement}
 use Rattle.journey.proofs.hop.Tie as tie
 
@@ -82,11 +82,16 @@ returns c = hopped-ended _ _ (c .if1 .taken)
 taker-requires : tie.Need-taker-requires
 taker-requires c κs = search needs
 
+miss-fate-requires : tie.Need-miss-fate-requires
+miss-fate-requires c κs = search needs
+
 returns-2 : tie.Need-returns-2
 returns-2 c =
-    let s = c .before .before .before .before .before .before .before .before in
-    hopped-lost _ (s .args .j) (c .before .before .before .before .before .if1 .left)
-    (c .before .before .taker .ensures .none-takes (c .if2 .taken ∙ sym (entries-are (now (s .args .file)) (s .args .shape) (s .pre .0))))
+    let none = c .before in
+    let s = none .before .before .before .before .before .before .before .before in
+    hopped-missed _ (s .args .j) (none .before .before .before .before .before .if1 .left) _ (c .miss-fate .ensures)
+    (none .before .before .taker .ensures .none-takes
+    (none .if2 .taken ∙ sym (entries-are (now (s .args .file)) (s .args .shape) (s .pre .0))))
 
 returns-3 : tie.Need-returns-3
 returns-3 c =
@@ -115,8 +120,8 @@ action-requires c κs = entry-taken (c .before) .bytes .long
 apply-requires : tie.Need-apply-requires
 apply-requires c κs = search needs
 
-add-t24 : tie.Need-add-t24
-add-t24 c = search needs
+add-t25 : tie.Need-add-t25
+add-t25 c = search needs
 
 returns-4 : tie.Need-returns-4
 returns-4 c =
@@ -131,8 +136,8 @@ link-after-requires c κs =
     let pre = start (out .before .before) .pre in
     (pre .0, (pre .1 .0, omega (arith, out .out-port .ensures, entry-taken (out .before) .bytes .out-high)))
 
-add-t26 : tie.Need-add-t26
-add-t26 c = search needs
+add-t27 : tie.Need-add-t27
+add-t27 c = search needs
 
 returns-5 : tie.Need-returns-5
 returns-5 c =
@@ -141,8 +146,8 @@ returns-5 c =
     hopped-left _ (start took .args .j) (travels took) _ (one-took took) _ (header-is applied) _ (out-is (applied .before .before))
     (c .before .before .if4 .left) (sym (c .before .link-after .ensures) ∙ c .if5 .taken)
 
-add-t20 : tie.Need-add-t20
-add-t20 c = search needs
+add-t21 : tie.Need-add-t21
+add-t21 c = search needs
 
 returns-6 : tie.Need-returns-6
 returns-6 c =
@@ -157,6 +162,7 @@ hop-spec =
     (tie.spec
     returns
     taker-requires
+    miss-fate-requires
     returns-2
     returns-3
     cast-entries
@@ -166,10 +172,10 @@ hop-spec =
     out-port-requires
     action-requires
     apply-requires
-    add-t24
+    add-t25
     returns-4
     link-after-requires
-    add-t26
+    add-t27
     returns-5
-    add-t20
+    add-t21
     returns-6)

@@ -14,7 +14,8 @@ use Rattle.journey.proofs.travel.Statement.{statement}
 use Rattle.journey.proofs.travel.Tie as tie
 
 abbrev Inv-loop : tie.InvT-loop
-Inv-loop file shape starts start limit j₀ k₀ j k = (k ≤ limit) × (j ≡ journeyOf (run (fabricIn file) k start (j₀ .header)))
+Inv-loop file shape starts start limit j₀ k₀ j k =
+    (k ≤ limit) × (j ≡ journeyOf (fabricIn file) (run (fabricIn file) k start (j₀ .header)))
 
 abbrev μ-loop : tie.MeasureT-loop
 μ-loop file shape starts start limit j₀ k₀ j k = limit - k
@@ -50,7 +51,9 @@ returns : tie.Need-returns Inv-loop μ-loop
 returns c =
     let s = c .before .before .before in
     let l = c .before .loop in
-    l .inv .1 ∙ ap (λ (k : ℕ). journeyOf (run (fabricIn (now (s .args .file))) k (s .args .start) (s .args .header))) (let e : l .k ≡ s .args .limit = omega arith in e)
+    let F = fabricIn (now (s .args .file)) in
+    l .inv .1
+    ∙ ap (λ (k : ℕ). journeyOf F (run F k (s .args .start) (s .args .header))) (let e : l .k ≡ s .args .limit = omega arith in e)
 
 pub travel-spec : {M : Type 1} → statement M
 travel-spec =

@@ -7,14 +7,23 @@ use Rattle.questions.proofs.started.Tie as tie
 word-requires : tie.Need-word-requires
 word-requires c κs = search needs
 
+count-of-requires : tie.Need-count-of-requires
+count-of-requires c κs = search needs
+
 cast-count : tie.Need-cast-count
 cast-count c = search needs
 
 kind-of-requires : tie.Need-kind-of-requires
 kind-of-requires c κs = search needs
 
+version-of-requires : tie.Need-version-of-requires
+version-of-requires c κs = search needs
+
 returns : tie.Need-returns
-returns c = asked.started-is _ _ _ (c .before .word .ensures) (c .kind-of .ensures)
+returns c =
+    let kind = c .before in
+    let count = kind .before in
+    asked.started-is _ _ _ _ _ (count .before .word .ensures) (kind .kind-of .ensures) (c .version-of .ensures) (count .count-of .ensures)
 
 pub started-spec : {M : Type 1} → statement M
-started-spec = tie.close (tie.spec word-requires cast-count kind-of-requires returns)
+started-spec = tie.close (tie.spec word-requires count-of-requires cast-count kind-of-requires version-of-requires returns)

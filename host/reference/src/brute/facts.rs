@@ -9,7 +9,7 @@ use crate::fabric::{Entry, Fabric};
 use crate::set::to_words;
 use crate::ternary::{self, Ternary};
 use crate::transfer::Transfer;
-use crate::ways::{holds, takers, Packet, Way, DROPPED, TIED, TRAVELLING};
+use crate::ways::{holds, takers, Packet, Way, DROPPED, LOST, TIED, TRAVELLING};
 
 /// Of a trace with more, only so many are looked at.
 const MOST_EVENTS: usize = 1000;
@@ -29,14 +29,24 @@ pub(super) fn facts_of_runs(all: &Ends) -> BTreeSet<Fact> {
         if run.fate == Some(TIED) {
             facts.extend(facts_of_tie(packet.fabric, &run, &takers));
         }
+        let missed = is_missed(packet.fabric, &run);
         let last = transfers_on(packet, &run.entries).pop();
         facts.extend(last.and_then(|(hop, _)| match run.fate {
             Some(TIED) => Some(Fact::TiedAfterATransfer),
-            Some(DROPPED) if hop + 1 == run.entries.len() => Some(Fact::DroppedByATransfer),
+            Some(DROPPED) if hop + 1 == run.entries.len() && !missed => {
+                Some(Fact::DroppedByATransfer)
+            }
             _ => None,
         }));
-        let to_a_tie = run.fate == Some(TRAVELLING) && takers.len() > 1;
-        facts.extend(when(to_a_tie, Fact::TravellingToATie));
+        facts.extend(match (run.fate, takers.len()) {
+            (Some(TRAVELLING), 0) => Some(Fact::TravellingToAMiss),
+            (Some(TRAVELLING), 2..) => Some(Fact::TravellingToATie),
+            (Some(DROPPED), _) if missed => Some(match run.entries.is_empty() {
+                true => Fact::MissedAtTheStart,
+                false => Fact::MissedBehindALink,
+            }),
+            _ => None,
+        });
         if !facts.contains(&Fact::PastEqualsBelow) {
             let mut hops = 0..run.entries.len();
             let past = hops.any(|hop| equals_below(packet, &run.entries[..=hop]));
@@ -46,6 +56,12 @@ pub(super) fn facts_of_runs(all: &Ends) -> BTreeSet<Fact> {
     let no_tie = all.iter().all(|(_, ends)| ends.len() == 1);
     facts.extend(when(no_tie, Fact::NoTie));
     facts
+}
+
+/// Whether a packet is dropped and no entry did it.
+fn is_missed(fabric: &Fabric, run: &Way) -> bool {
+    let drops = |&last: &u32| fabric.entries[last as usize].out_port == 0;
+    run.fate == Some(DROPPED) && !run.entries.last().is_some_and(drops)
 }
 
 fn facts_of_tie(fabric: &Fabric, run: &Way, takers: &[u32]) -> impl Iterator<Item = Fact> {
@@ -92,6 +108,29 @@ pub(super) fn facts_of_arrivals(all: &Ends, query: &Query) -> BTreeSet<Fact> {
         reached && !leaks_by_the_earlier,
         Fact::LeaksByTheLater,
     ));
+    facts
+}
+
+/// What is in a list of those of these packets that are lost.
+pub(super) fn facts_of_the_lost(all: &Ends, query: &Query) -> BTreeSet<Fact> {
+    let mut facts = BTreeSet::new();
+    for (packet, ends) in all {
+        let found = || ends.iter().filter(|way| way.arrives(query));
+        let lost_outside = |way: &Way| way.fate == Some(LOST) && !way.arrives(query);
+        let started_inside = holds(&query.asked(), packet.header);
+        let by_choice = ends.iter().any(|way| way.fate != Some(LOST));
+        for hops in found().map(|way| way.entries.len() as u32) {
+            let at_the_limit = hops > 0 && hops + 1 == query.limit;
+            facts.extend(when(hops == 0, Fact::LostAtOnce));
+            facts.extend(when(hops >= 2, Fact::LostFar));
+            facts.extend(when(at_the_limit, Fact::LostAtTheLimit));
+            facts.extend(when(by_choice, Fact::LostByChoice));
+            facts.extend(when(!started_inside, Fact::LostWithinTheAsked));
+        }
+        let outside = started_inside && ends.iter().any(lost_outside);
+        facts.extend(when(found().count() > 1, Fact::LostTwice));
+        facts.extend(when(outside, Fact::LostOutsideTheAsked));
+    }
     facts
 }
 

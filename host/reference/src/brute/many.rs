@@ -2,11 +2,12 @@
 
 use std::collections::BTreeSet;
 
-use super::facts::{facts_of_arrivals, facts_of_runs, facts_of_trace};
+use super::facts::{facts_of_arrivals, facts_of_runs, facts_of_the_lost, facts_of_trace};
 use super::tally::{Fact, Tally};
 use super::{arrivals, check_list, check_run, check_verdict, ends, Arrivals, Ends};
 use crate::calls::{Answer, Query};
 use crate::examples::run_query;
+use crate::fabric::OpenFlow;
 use crate::file::write;
 use crate::random::{cases, small_query, Rng, Small};
 use crate::set::to_words;
@@ -68,9 +69,12 @@ impl Checked {
     }
 
     fn on_query(self, made: &Small, file: &[u8], query: &Query, ends: &Ends) -> BTreeSet<Fact> {
-        if made.fabric.edges.is_empty() {
-            assert_eq!((self.list)(file, 0, query), Err((8, 0)));
-            return [].into();
+        if query.is_of_the_lost() {
+            assert_eq!((self.verdict)(file, 96, query), Err((8, 0)));
+            if made.fabric.openflow == OpenFlow::V1_3 {
+                assert_eq!((self.list)(file, 0, query), Err((8, 0)));
+                return [Fact::LostRefused].into();
+            }
         }
         let arrivals = arrivals(ends, query);
         let listed = match (self.list)(file, most_bytes(&arrivals), query) {
@@ -78,10 +82,14 @@ impl Checked {
             listed => listed.unwrap(),
         };
         check_list(&made.bits, &arrivals, &listed).unwrap();
+        let mut facts = facts_of_trace(&made.fabric, query);
+        if query.is_of_the_lost() {
+            facts.extend(facts_of_the_lost(ends, query));
+            return facts;
+        }
         let judged = (self.verdict)(file, 96, query).unwrap();
         check_verdict(&made.fabric, &arrivals, query, &judged).unwrap();
-        let mut facts = facts_of_arrivals(ends, query);
-        facts.extend(facts_of_trace(&made.fabric, query));
+        facts.extend(facts_of_arrivals(ends, query));
         facts
     }
 

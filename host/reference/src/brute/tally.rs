@@ -55,6 +55,28 @@ pub enum Fact {
     JoinsThatAgree,
     /// They don't, so that it ends there.
     JoinsThatDisagree,
+    /// Under OpenFlow 1.3, a list of the lost that is refused.
+    LostRefused,
+    /// Found by a list of the lost, after no hop. Here and below, of such a list.
+    LostAtOnce,
+    /// Found after two hops or more.
+    LostFar,
+    /// Found after one hop less than the limit, which is above 1.
+    LostAtTheLimit,
+    /// A pair in two finds.
+    LostTwice,
+    /// A packet that is found and under another choice isn't lost.
+    LostByChoice,
+    /// Found though it started with a header outside the asked set.
+    LostWithinTheAsked,
+    /// A packet that started inside it and isn't found, since it is outside when lost.
+    LostOutsideTheAsked,
+    /// Under OpenFlow 1.3, a run that no entry takes at the start.
+    MissedAtTheStart,
+    /// The same behind a link.
+    MissedBehindALink,
+    /// A run that is still travelling at the limit, to where no entry takes it.
+    TravellingToAMiss,
 }
 
 impl Fact {
@@ -82,6 +104,21 @@ impl Fact {
         Fact::TiedAfterATransfer,
         Fact::JoinsThatAgree,
         Fact::JoinsThatDisagree,
+    ];
+
+    /// Those that only table misses bring about.
+    pub const OF_MISSES: [Fact; 11] = [
+        Fact::LostRefused,
+        Fact::LostAtOnce,
+        Fact::LostFar,
+        Fact::LostAtTheLimit,
+        Fact::LostTwice,
+        Fact::LostByChoice,
+        Fact::LostWithinTheAsked,
+        Fact::LostOutsideTheAsked,
+        Fact::MissedAtTheStart,
+        Fact::MissedBehindALink,
+        Fact::TravellingToAMiss,
     ];
 }
 

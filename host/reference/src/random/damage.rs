@@ -12,7 +12,7 @@ use crate::fabric::{Fabric, Link, PORTS};
 use crate::file::read;
 use crate::refusal::Refusal;
 
-use chance::{flipped, record_changed, words_changed};
+use chance::{flipped, record_changed, start_flipped, words_changed};
 use layout::{
     misplaced_end, stray_zero_bit, wrong_kind, wrong_length, wrong_start, wrong_transfer, File,
 };
@@ -31,7 +31,7 @@ macro_rules! ways {
         }
 
         impl Damage {
-            pub const ALL: [Damage; 45] = [$(Damage::$how,)*];
+            pub const ALL: [Damage; 46] = [$(Damage::$how,)*];
         }
     };
 }
@@ -84,6 +84,7 @@ ways! {
     EntryTooMany,
     EntryTooManyAtInPort,
     // Any question or none.
+    FlippedStartBit,
     FlippedBit,
     FlippedByte,
     OtherWord,
@@ -135,6 +136,7 @@ pub fn inflict(how: Damage, bytes: &[u8], rng: &mut Rng) -> Damaged {
         LinkFromEdge | LinkToEdge | LinksWithOneEnd => link_misplaced(how, fabric, rng),
         EdgeTooMany | LinkTooMany => too_many_edges_or_links(how, fabric, rng),
         EntryTooMany | EntryTooManyAtInPort => too_many_entries(how, fabric, rng),
+        FlippedStartBit => start_flipped(bytes, rng),
         FlippedBit => flipped(bytes, one_bit, rng),
         FlippedByte => flipped(bytes, some_bits, rng),
         OtherWord | SwappedWords => words_changed(how, bytes, rng),

@@ -34,15 +34,29 @@ pub fn query(rng: &mut Rng, fabric: &Fabric, most: u32) -> Query {
     })
 }
 
+/// The same for a list: one in six is of the packets that are lost.
+pub fn list_query(rng: &mut Rng, fabric: &Fabric, most: u32) -> Query {
+    let asked = query(rng, fabric, most);
+    match rng.once_in(6) {
+        true => asked.of_the_lost(),
+        false => asked,
+    }
+}
+
 /// A query in range that cares for the fabric's few bits alone, with all of
-/// the budget. Its port is 0 if there is no edge.
+/// the budget. One in six is of the packets that are lost, as are all if there is
+/// no edge.
 pub fn small_query(rng: &mut Rng, small: &Small) -> Query {
     let asked = set_over(rng, &small.bits, 2);
     let limit = match rng.once_in(3) {
         true => 16,
         false => rng.between(1, 6) as u32,
     };
-    wild_query(target(rng, &small.fabric), limit, u32::MAX).about(asked)
+    let query = wild_query(target(rng, &small.fabric), limit, u32::MAX).about(asked);
+    match rng.once_in(6) {
+        true => query.of_the_lost(),
+        false => query,
+    }
 }
 
 /// An edge port, mostly one that an entry sends to; 0 if there is none.
@@ -95,7 +109,8 @@ fn port(rng: &mut Rng, fabric: &Fabric) -> u32 {
     match rng.below(30) {
         0 => rng.draw() as u32,
         1 => rng.below(4097) as u32,
-        2..=5 => rng.pick(&fabric.edges).map_or(0, |edge| edge.port.into()),
+        2 => 0,
+        3..=6 => rng.pick(&fabric.edges).map_or(0, |edge| edge.port.into()),
         _ => target(rng, fabric),
     }
 }

@@ -3,10 +3,10 @@
 //! bit of nw_dst, so that copies and swaps stay among them.
 
 use super::parts::{in_port, out_port, rewrite_over, set_over, some_ports, spread_bits, tidy};
-use super::transfers::scatter;
-use super::{finish, Rng};
+use super::{finish, misses, transfers, Rng};
 use crate::examples::entry;
 use crate::fabric::{Edge, Entry, Fabric, Link};
+use crate::set::Set;
 
 /// A fabric that cares for and rewrites only these bits.
 #[derive(Clone, Debug)]
@@ -58,7 +58,8 @@ pub fn ties(rng: &mut Rng) -> Small {
         inward: 8,
     };
     let mut made = shaped(rng, &shape);
-    scatter(rng, &mut made.fabric);
+    transfers::scatter(rng, &mut made.fabric);
+    misses::choose(rng, &mut made.fabric);
     made
 }
 
@@ -112,7 +113,7 @@ fn shaped(rng: &mut Rng, shape: &Shape) -> Small {
             .map(|&port| random_edge(rng, port, &bits))
             .collect(),
         links: random_links(rng, inner, shape.links),
-        entries: Vec::new(),
+        ..Fabric::default()
     };
     tidy(&mut fabric);
     let step = rng.one_of([1, 0x1000, 0x3fff]);
@@ -157,6 +158,18 @@ pub fn small_ring(rng: &mut Rng) -> Small {
     rng.shuffle(&mut fabric.entries);
     finish(rng, &mut fabric);
     Small { fabric, bits }
+}
+
+/// The same with gaps: of the entries that take whatever comes, one in two takes
+/// only some of it, so that packets are lost after many hops.
+pub fn leaky_ring(rng: &mut Rng) -> Small {
+    let mut made = small_ring(rng);
+    for entry in &mut made.fabric.entries {
+        if entry.matching == Set::ALL_WILD && rng.once_in(2) {
+            entry.matching = set_over(rng, &made.bits, 2);
+        }
+    }
+    made
 }
 
 /// With priority 0 all go on round the ring; above it, some leave or are dropped.

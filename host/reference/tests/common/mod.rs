@@ -9,7 +9,7 @@ use reference::calls::{read_answer, Answer, ANSWER_WORDS};
 use reference::examples::{run_query, wild_query};
 use reference::file::write;
 use reference::random::{cases, small, small_query, ties, Rng, Small};
-use reference::{run, Fabric, Query};
+use reference::{list, run, Fabric, Query, Set};
 
 /// One of the three calls.
 pub type Call = fn(&[u8], &mut [u8], &Query) -> u64;
@@ -29,6 +29,12 @@ pub fn answer(call: Call, file: &[u8], lent: usize, query: &Query) -> Answer {
 /// A verdict or list of target 2, all wild.
 pub fn asked(call: Call, fabric: &Fabric, limit: u32, budget: u32) -> Answer {
     answer(call, &write(fabric), 4000, &wild_query(2, limit, budget))
+}
+
+/// A list of the packets that are lost with a header in this set.
+pub fn lost_of(fabric: &Fabric, limit: u32, budget: u32, asked: Set) -> Answer {
+    let query = wild_query(0, limit, budget).about(asked);
+    answer(list, &write(fabric), 40_000, &query)
 }
 
 /// A run from port 1.

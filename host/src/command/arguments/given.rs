@@ -3,10 +3,11 @@
 use std::collections::VecDeque;
 use std::ffi::{OsStr, OsString};
 
-use super::super::manual::{is_a_setting, Command, Setting};
+use super::super::manual::{is_a_setting, Command, Setting, LOST};
 use super::super::Failure;
 use super::{quoted, wrong};
 use crate::header::{Header, HeaderSet};
+use crate::query::Target;
 use crate::text::{parse_header, Wrong};
 
 /// Options are those that the command has, at most once each.
@@ -110,7 +111,22 @@ impl Given {
 
     pub(super) fn port(&mut self) -> Result<u32, Failure> {
         let what = self.what();
-        number(what, &self.next()?)
+        let word = self.next()?;
+        match word == LOST {
+            true => Err(wrong(format!("{what}: only list takes '{LOST}'"))),
+            false => number(what, &word),
+        }
+    }
+
+    /// A port, or what is lost. Ports are asked about by their numbers, so no
+    /// port's name is taken for the word, nor the word for a port's name.
+    pub(super) fn target(&mut self) -> Result<Target, Failure> {
+        let what = self.what();
+        let word = self.next()?;
+        match word == LOST {
+            true => Ok(Target::Lost),
+            false => number(what, &word).map(Target::numbered),
+        }
     }
 
     pub(super) fn header(&mut self) -> Result<Header, Failure> {

@@ -97,9 +97,24 @@ pub(super) const ALL: &[Command] = &[
     },
     Command {
         name: "list",
-        operands: &[FABRIC, TARGET],
-        settings: &[ASKED, HOPS, BUDGET, JSON],
-        summary: "every header that gets to TARGET, as sets",
+        operands: &[
+            FABRIC,
+            Operand {
+                what: "a target port or 'lost'",
+                kind: Kind::Target,
+                ..TARGET
+            },
+        ],
+        settings: &[
+            Setting {
+                about: "only packets that have these headers when they get out, or are lost",
+                ..ASKED
+            },
+            HOPS,
+            BUDGET,
+            JSON,
+        ],
+        summary: "every header that gets to TARGET, or is lost, as sets",
         about: &[
             "Each line is a find: the edge port where its packets start, whose packets they \
              are, the entries that take them to TARGET in travelling order, and their headers \
@@ -107,6 +122,13 @@ pub(super) const ALL: &[Command] = &[
             "Behind an entry stand others of the same priority that might take some of these \
              packets too. By their choices a header may get to TARGET by several ways: each \
              way stands in one find.",
+            "'lost' as TARGET, which is target 0 of document 02, asks for the packets that are \
+             lost: they come to an in-port where no entry takes them, after no hop or more, and \
+             fewer than the limit. Each find then says where they are lost, and what their \
+             headers are then, which --asked is about. Under OpenFlow 1.3 nothing is lost, and \
+             'lost' is refused: what no entry takes is dropped, as its run says.",
+            "Ports are asked about by their numbers, never by their names: 'lost' is what is \
+             lost, also where a port is named so.",
         ],
         statuses: &[(0, "the list is whole; it says nothing of isolation")],
     },
@@ -133,6 +155,7 @@ pub(super) const ALL: &[Command] = &[
             "Says where the packet ends, with which header, and its way hop by hop. It stops as \
              'tied' where two or more entries of the highest priority match, even if they do \
              the same, and names them: any of them may take it.",
+            "A packet that no entry takes is lost or, under OpenFlow 1.3, dropped.",
         ],
         statuses: &[(0, "the packet's fate is told, whichever it is")],
     },
@@ -161,8 +184,8 @@ pub(super) const ALL: &[Command] = &[
         settings: &[],
         summary: "the fabric as text",
         about: &[
-            "pack makes the same file of it again. Ties that matter, as in an audit, stand at \
-             the end as remarks.",
+            "pack makes the same file of it again. A fabric of OpenFlow 1.3 begins with the line \
+             'openflow 1.3'. Ties that matter, as in an audit, stand at the end as remarks.",
         ],
         statuses: DONE,
     },

@@ -1,6 +1,6 @@
 //! Completions for shells.
 
-use super::{Command, Kind, Setting};
+use super::{Command, Kind, Setting, LOST};
 
 /// A shell that completions can be made for.
 #[derive(Clone, Copy)]
@@ -110,6 +110,7 @@ fn operands(command: &Command) -> Vec<&'static str> {
         .flat_map(|kind| match kind {
             Kind::Command => command_names(),
             Kind::Shell => Shell::ALL.map(|(name, _)| name).to_vec(),
+            Kind::Target => vec![LOST],
             Kind::File | Kind::Other => Vec::new(),
         })
         .collect()

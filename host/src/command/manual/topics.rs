@@ -10,9 +10,10 @@ pub(super) const ARGUMENTS: Topic = Topic {
     title: "Arguments",
     text: "\
 FABRIC is a fabric file, TEXT a text; - is standard input, and for pack's FABRIC
-standard output. TARGET and START are edge ports. A packet is foreign if it
-starts in another group than the target's, or outside what its own edge port
-admits. Options may stand anywhere after the command; -- ends them.
+standard output. TARGET and START are edge ports, by their numbers; list also
+takes 'lost' as TARGET. A packet is foreign if it starts in another group than
+the target's, or outside what its own edge port admits. Options may stand
+anywhere after the command; -- ends them.
 ",
 };
 
@@ -53,6 +54,9 @@ A text has a line for each edge, link and entry, and # before a remark:
   switch leaf-1 1 10 12
 Behind its match an entry may have copy, which copies nw_src over nw_dst, or
 swap, which swaps them, and then set, which writes fields: in this order.
+A line 'openflow 1.3' says that a packet which no entry takes is dropped; with
+'openflow 1.0', or without such a line, it is lost. It stands at most once, and
+before every edge, link and entry.
 A switch reads tp_src and tp_dst only beside nw_proto. Of the entries at an in-
 port that match, one of the highest priority takes the packet: any, if there are
 several, wherever they stand. Ports are 1 to 4095. At most 64 edges, 256 links,

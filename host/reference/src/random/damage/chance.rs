@@ -10,6 +10,14 @@ fn at_random(bytes: Vec<u8>) -> Damaged {
     Damaged { bytes, refusal }
 }
 
+/// One of the start's bits above the count: that which chooses between OpenFlow 1.0
+/// and 1.3, or one without which it is no start of the one version.
+pub(super) fn start_flipped(bytes: &[u8], rng: &mut Rng) -> Damaged {
+    let mut words = to_le_words(bytes);
+    words[0] ^= 1 << rng.between(16, 31);
+    at_random(to_le_bytes(&words))
+}
+
 pub(super) fn flipped(bytes: &[u8], flips: u8, rng: &mut Rng) -> Damaged {
     let mut bytes = bytes.to_vec();
     let place = rng.below(bytes.len());

@@ -8,6 +8,9 @@ use crate::file::{
 };
 use crate::random::Rng;
 
+/// The start's bits with the file's word count.
+const COUNT: u32 = 0xffff;
+
 /// A file as its records, the start and the end among them.
 pub(super) struct File {
     pub(super) records: Vec<Vec<u32>>,
@@ -50,7 +53,7 @@ impl File {
     /// The file with its count set right.
     pub(super) fn counted(&self) -> Vec<u8> {
         let mut words = self.words();
-        words[0] = start_word(words.len());
+        words[0] = words[0] & !COUNT | words.len() as u32;
         to_le_bytes(&words)
     }
 
@@ -81,15 +84,15 @@ pub(super) fn wrong_length(how: Damage, file: File, rng: &mut Rng) -> Damaged {
 
 pub(super) fn wrong_start(how: Damage, mut file: File, rng: &mut Rng) -> Damaged {
     let start = file.records[0][0];
-    let (count, version) = (start & 0xffff, start >> 16 & 0xfff);
+    let (count, version) = (start & COUNT, start >> 16 & 0x7ff);
     match how {
         Damage::WrongCount => {
             let count = count ^ rng.between(1, 0xffff) as u32;
-            file.records[0][0] = start & 0xffff_0000 | count;
+            file.records[0][0] = start & !COUNT | count;
         }
         Damage::WrongVersion => {
-            let version = version ^ rng.between(1, 0xfff) as u32;
-            file.records[0][0] = start & 0xf000_ffff | version << 16;
+            let version = version ^ rng.between(1, 0x7ff) as u32;
+            file.records[0][0] = start & 0xf800_ffff | version << 16;
         }
         Damage::NoStart => file.records[0][0] = start ^ (rng.between(1, 15) as u32) << 28,
         _ => {}

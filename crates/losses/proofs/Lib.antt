@@ -1,0 +1,2 @@
+mod Ports
+mod Passing
