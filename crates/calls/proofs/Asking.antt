@@ -11,7 +11,8 @@ use Rattle.headers.specs.Sets.{Set}
 use Rattle.headers.proofs.Booleans.{and-fst, and-snd}
 use Rattle.answer.specs.Answer.{Outcome, outcome, refused, answered, writtenAt, bytesOf}
 use Rattle.questions.specs.Questions.{pick, Question, firstNo}
-use Rattle.calls.specs.Questions.{limitRight, traceQuestions, orRefused}
+use Rattle.queries.specs.Queries.{limitRight, traceQuestions}
+use Rattle.calls.specs.Questions.{orRefused}
 
 abbrev pub Yeses : List Question → Type 0
 Yeses [] = Unit {0}

@@ -20,7 +20,8 @@ use Rattle.model.specs.Model.{fabricOf, fabricIn}
 use Rattle.events.specs.Play.{Played, reachedWords}
 use Rattle.events.proofs.VerdictPlayed.{VerdictPlayed, verdict-played}
 use Rattle.backtrace.specs.Pass.{begin, passOf}
-use Rattle.calls.specs.Questions.{Query, traceQuestions, roomForAnswer, orRefused}
+use Rattle.queries.specs.Queries.{traceQuestions}
+use Rattle.calls.specs.Questions.{Query, roomForAnswer, orRefused}
 use Rattle.calls.specs.Verdict.{verdictWords, verdictAsked}
 use Rattle.calls.proofs.Asking.{trace-numbered, no-answered, yes-answered}
 use Rattle.calls.proofs.MoreAsked.{first-no-more, first-no-said}

@@ -24,7 +24,8 @@ use Rattle.events.specs.Play.{Played, findWords, listWords}
 use Rattle.events.proofs.ListPlayed.{wordsOf, ListedAll, listed-all, listed-stops}
 use Rattle.backtrace.specs.Pass.{begin, playedThen}
 use Rattle.backtrace.specs.declared.Passed.{Passed}
-use Rattle.calls.specs.Questions.{Query, listTarget, traceQuestions, orRefused}
+use Rattle.queries.specs.Queries.{listTarget, traceQuestions}
+use Rattle.calls.specs.Questions.{Query, orRefused}
 use Rattle.calls.specs.List.{listAsked, wordsAsked, listQuestions, listPassOf}
 use Rattle.calls.proofs.Asking.{trace-numbered, no-answered, yes-answered}
 use Rattle.calls.proofs.MoreAsked.{first-no-more, first-no-said}

@@ -10,7 +10,8 @@ use Rattle.forwarding.specs.Fabric as Forwarding
 use Rattle.forwarding.specs.Trace.{Event, listTrace, units, finds}
 use Rattle.events.specs.Play.{Played, play, listed, listWords}
 use Rattle.backtrace.specs.Pass.{begin}
-use Rattle.calls.specs.Questions.{Query, listTarget, traceQuestions, answerBy}
+use Rattle.queries.specs.Queries.{listTarget, traceQuestions}
+use Rattle.calls.specs.Questions.{Query, answerBy}
 
 -- the events that a query asks for, were there no budget
 abbrev pub listAsked : Forwarding.Fabric → Query → List Event

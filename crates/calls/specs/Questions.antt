@@ -1,14 +1,13 @@
--- Questions 8 to 12 of document 01, "Questions asked in turn", as each call asks them after 1 to 7. Assumes nothing.
-use mathlib.Core.Bool.{Bool, not, _&&_, _||_}
-use mathlib.Core.List.{List, [], _∷_}
-use Prim.Native.Nat.{ℕ, _+_, _*_, _-_, _^_}
+-- A query, question 12 of an answer of fixed length, and what a call is by its questions after 1 to 7.
+use mathlib.Core.Bool.{Bool}
+use mathlib.Core.List.{List}
+use Prim.Native.Nat.{ℕ, _+_, _*_}
 use lib.Dec.{leb, eqb}
 use lib.ListN.{length}
-use Rattle.headers.specs.Bits.{word, every}
-use Rattle.headers.specs.Sets.{Set, tidy}
+use Rattle.headers.specs.Sets.{Set}
 use Rattle.answer.specs.Answer.{Outcome, refused, answered}
 use Rattle.records.specs.Records.{headerWords}
-use Rattle.questions.specs.Questions.{pick, Question, _asks_, firstNo}
+use Rattle.questions.specs.Questions.{pick, Question, firstNo}
 use Rattle.questions.specs.declared.Read.{Read}
 use Rattle.questions.specs.declared.Read.the-variants as Reads
 use Rattle.model.specs.Model.{fabricIn}
@@ -28,26 +27,6 @@ query port limit budget asked = record { port = port; limit = limit; budget = bu
 -- the words of a verdict's or a run's answer: four, a header, and an entry for each hop
 abbrev pub answerWords : ℕ
 answerWords = 4 + headerWords + 16
-
--- 9. "Is the hop limit 1 to 16?"
-abbrev pub limitRight : ℕ → Bool
-limitRight limit = leb 1 limit && leb limit 16
-
--- 10. "Is the asked value zero outside its care"
-abbrev pub askedTidy : Set → Bool
-askedTidy s = tidy headerWords s
-
--- 10. ".. and for a run all 128 bits cared for?"
-abbrev pub caresForAll : Set → Bool
-caresForAll s = every headerWords (λ w. eqb (word (s .care) w) (2 ^ 32 - 1))
-
--- Q8 of a list: the target is an edge port, or it is 0 where a packet that no entry takes is lost
-abbrev pub listTarget : Fabric → ℕ → Bool
-listTarget F target = F .isEdge target || (eqb target 0 && not (F .missDrops))
-
--- Q8 by what it asks of the target, Q9 and Q10: what verdict and list ask first
-abbrev pub traceQuestions : Bool → ℕ → Set → List Question
-traceQuestions right limit asked = 8 asks right ∷ 9 asks limitRight limit ∷ 10 asks askedTidy asked ∷ []
 
 -- 12. "Are 96 bytes lent (verdict, run)?"
 abbrev pub roomForAnswer : List ℕ → Bool

@@ -8,7 +8,8 @@ use Rattle.questions.specs.declared.Read.{Read}
 use Rattle.forwarding.specs.Fabric as Forwarding
 use Rattle.forwarding.specs.Run.{Packet, run}
 use Rattle.journey.specs.Journey.{packetWords}
-use Rattle.calls.specs.Questions.{Query, limitRight, askedTidy, caresForAll, roomForAnswer, answerBy}
+use Rattle.queries.specs.Queries.{limitRight, askedTidy, caresForAll}
+use Rattle.calls.specs.Questions.{Query, roomForAnswer, answerBy}
 
 -- the packet that a query asks for: every bit of its header is cared for, so the header is the asked value
 abbrev pub packetRun : Forwarding.Fabric → Query → Packet

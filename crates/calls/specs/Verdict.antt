@@ -10,7 +10,8 @@ use Rattle.forwarding.specs.Fabric as Forwarding
 use Rattle.forwarding.specs.Trace.{Event, trace}
 use Rattle.forwarding.specs.Verdict.{Verdict, isolated, reached, unitsIn, verdictOn}
 use Rattle.events.specs.Play.{reachedWords}
-use Rattle.calls.specs.Questions.{Query, traceQuestions, roomForAnswer, answerBy}
+use Rattle.queries.specs.Queries.{traceQuestions}
+use Rattle.calls.specs.Questions.{Query, roomForAnswer, answerBy}
 
 -- "0 isolated or 1 reached; units made; .. Isolated has 0 from word 2 on."
 unfoldable pub verdictWords : Verdict → List ℕ

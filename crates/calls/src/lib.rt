@@ -6,15 +6,13 @@ use index::CELLS;
 use index::UNUSED;
 use questions::ask;
 use records::Shape;
-ghost use mathlib.Core.Bool.{true, not, _&&_};
+ghost use mathlib.Core.Bool.{true};
 ghost use mathlib.Core.List.{_++_};
 ghost use mathlib.Core.Path.{_≡_};
 ghost use Prim.Native.Nat.{_*_, _≤_};
-ghost use lib.Dec.{eqb};
 ghost use lib.ListN.{length, take, drop};
 ghost use Rattle.headers.specs.Forms.{setOf};
 ghost use Rattle.answer.specs.Answer.{outcome, writtenAt};
-ghost use Rattle.questions.specs.Questions.{firstNo};
 ghost use Rattle.questions.specs.Tables.{EdgeTable, StartTable};
 ghost use Rattle.questions.specs.declared.Read.the-variants.{Fabric};
 ghost use Rattle.file.specs.Accepted.{Accepted};
@@ -22,7 +20,8 @@ ghost use Rattle.forwarding.specs.Verdict.{isolated};
 ghost use Rattle.model.specs.Model.{fabricIn};
 ghost use Rattle.index.specs.Index.{Index};
 ghost use Rattle.backtrace.specs.Pass.{playedThen};
-ghost use Rattle.calls.specs.Questions.{query, limitRight, caresForAll, listTarget, traceQuestions};
+ghost use Rattle.queries.specs.Queries.{listTarget};
+ghost use Rattle.calls.specs.Questions.{query};
 ghost use Rattle.calls.specs.Run.{runAnswer};
 ghost use Rattle.calls.specs.Verdict.{verdictWords, verdictAnswer};
 ghost use Rattle.calls.specs.List.{listPassOf, listAnswer};
@@ -41,84 +40,6 @@ const BUDGET_USED: u64 = 13;
 const OWN_WORDS: usize = 4096;
 
 const OWN_BYTES: usize = 4 * OWN_WORDS;
-
-// ---- questions 8 to 11
-
-fn limit_right(limit: u32) -> bool
-    ensures { λ r. ⌜ r ≡ limitRight limit ⌝ }
-{
-    (1 <= limit) & (limit <= 16)
-}
-
-fn cares_for_all(s: HeaderSet) -> bool
-    ensures { λ r. ⌜ r ≡ caresForAll (setOf s) ⌝ }
-{
-    let c = s.care;
-    (c[0] == 0xffff_ffff) & (c[1] == 0xffff_ffff) & (c[2] == 0xffff_ffff) & (c[3] == 0xffff_ffff)
-}
-
-// Is the port an edge's? By the table of edges.
-fn is_edge(file: &[u8], shape: Shape, edge_of: &[u16; 4096], port: u32) -> bool
-    requires { ⌜ Accepted (now file) shape ⌝ }
-    requires { ⌜ EdgeTable (now file) (shape .edges) (now «edge_of») ⌝ }
-    ensures { λ r. ⌜ r ≡ fabricIn (now (file .entry)) .isEdge port ⌝ }
-{
-    if 4096 <= port {
-        return false;
-    }
-    0 < edge_of[port as usize]
-}
-
-// Does target 0 ask for the packets that are lost? Not where they are dropped.
-fn lost_asked(file: &[u8], shape: Shape, target: u32) -> bool
-    requires { ⌜ Accepted (now file) shape ⌝ }
-    ensures { λ r. ⌜ r ≡ (eqb target 0 && not (fabricIn (now (file .entry)) .missDrops)) ⌝ }
-{
-    (target == 0) & !model::miss_drops(file, shape)
-}
-
-// Questions 8, 9 and 10, which verdict and list ask first: the number of the first no, or 0. The first is whether the target is right.
-fn trace_no(right: bool, limit: u32, asked: HeaderSet) -> u32
-    ensures { λ r. ⌜ r ≡ firstNo (traceQuestions right limit (setOf asked)) ⌝ }
-{
-    let tidy = asked.is_tidy();
-    ask(8, right, ask(9, limit_right(limit), ask(10, tidy, 0)))
-}
-
-// As the verdict asks them.
-fn verdict_no(
-    file: &[u8],
-    shape: Shape,
-    edge_of: &[u16; 4096],
-    target: u32,
-    limit: u32,
-    asked: HeaderSet,
-) -> u32
-    requires { ⌜ Accepted (now file) shape ⌝ }
-    requires { ⌜ EdgeTable (now file) (shape .edges) (now «edge_of») ⌝ }
-    ensures { λ r. ⌜ r ≡ firstNo (traceQuestions (fabricIn (now (file .entry)) .isEdge target) limit (setOf asked)) ⌝ }
-{
-    let edge = is_edge(file, shape, edge_of, target);
-    trace_no(edge, limit, asked)
-}
-
-// As the list asks them.
-fn list_no(
-    file: &[u8],
-    shape: Shape,
-    edge_of: &[u16; 4096],
-    target: u32,
-    limit: u32,
-    asked: HeaderSet,
-) -> u32
-    requires { ⌜ Accepted (now file) shape ⌝ }
-    requires { ⌜ EdgeTable (now file) (shape .edges) (now «edge_of») ⌝ }
-    ensures { λ r. ⌜ r ≡ firstNo (traceQuestions (listTarget (fabricIn (now (file .entry))) target) limit (setOf asked)) ⌝ }
-{
-    let edge = is_edge(file, shape, edge_of, target);
-    let lost = lost_asked(file, shape, target);
-    trace_no(edge | lost, limit, asked)
-}
 
 // ---- the packet run
 
@@ -140,12 +61,12 @@ pub fn run_accepted(
     ensures { λ r. ⌜ outcome r (now (area .exit)) ≡ runAnswer (now (file .entry)) (query start limit budget (setOf asked)) (Fabric shape) (now (area .entry)) ⌝ }
 {
     let tidy = asked.is_tidy();
-    let all = cares_for_all(asked);
-    let edge = is_edge(file, shape, edge_of, start);
+    let all = queries::cares_for_all(asked);
+    let edge = queries::is_edge(file, shape, edge_of, start);
     let room = ANSWER <= area.len();
     let no = ask(
         9,
-        limit_right(limit),
+        queries::limit_right(limit),
         ask(10, tidy & all, ask(11, edge, ask(12, room, 0))),
     );
     if no != 0 {
@@ -184,7 +105,7 @@ pub fn verdict_accepted(
     requires { ⌜ EdgeTable (now file) (shape .edges) (now «edge_of») ⌝ }
     ensures { λ r. ⌜ outcome r (now (area .exit)) ≡ verdictAnswer (now (file .entry)) (query target limit budget (setOf asked)) (Fabric shape) (now (area .entry)) ⌝ }
 {
-    let no = verdict_no(file, shape, edge_of, target, limit, asked);
+    let no = queries::verdict_no(file, shape, edge_of, target, limit, asked);
     if no != 0 {
         return no as u64;
     }
@@ -283,7 +204,7 @@ pub fn list_accepted(
     requires { ⌜ EdgeTable (now file) (shape .edges) (now «edge_of») ⌝ }
     ensures { λ r. ⌜ outcome r (now (area .exit)) ≡ listAnswer (now (file .entry)) (query target limit budget (setOf asked)) (Fabric shape) (now (area .entry)) ⌝ }
 {
-    let no = list_no(file, shape, edge_of, target, limit, asked);
+    let no = queries::list_no(file, shape, edge_of, target, limit, asked);
     if no != 0 {
         return no as u64;
     }

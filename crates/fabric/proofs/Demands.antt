@@ -35,11 +35,12 @@ use Rattle.forwarding.proofs.Verdicts as verdicts
 use Rattle.model.specs.Model.{fabricOf, fabricIn}
 use Rattle.model.proofs.Soundness.{fabric-sound}
 use Rattle.events.specs.Play.{reachedWords}
-use Rattle.calls.specs.Questions.{Query, askedTidy, listTarget, orRefused}
+use Rattle.queries.specs.Queries.{askedTidy, listTarget}
+use Rattle.calls.specs.Questions.{Query, orRefused}
 use Rattle.calls.specs.Verdict.{traceAsked, verdictAsked, verdictWords}
 use Rattle.calls.specs.List.{listAsked, wordsAsked}
 use Rattle.calls.proofs.Asking.{limit-range}
-use Rattle.calls.proofs.Targets.{lost-asked, edge-asked}
+use Rattle.queries.proofs.Targets.{lost-asked, edge-asked}
 use Rattle.fabric.specs.Calls.{answerOf, callOf}
 use Rattle.fabric.specs.Demands.{Demand1, Demand2, VerdictSays, HoldJust, ListSays, RunSays, OfWords, Demand3}
 use Rattle.fabric.specs.Demands.{said, findsRead}

@@ -13,7 +13,8 @@ use Rattle.questions.specs.Questions.{firstNo}
 use Rattle.model.specs.Model.{fabricIn}
 use Rattle.events.proofs.ListPlayed.{ListedAll}
 use Rattle.backtrace.specs.Pass.{begin, playedThen}
-use Rattle.calls.specs.Questions.{Query, query, listTarget, traceQuestions}
+use Rattle.queries.specs.Queries.{listTarget, traceQuestions}
+use Rattle.calls.specs.Questions.{Query, query}
 use Rattle.calls.specs.List.{listAsked, wordsAsked}
 use Rattle.calls.proofs.Asking.{trace-yeses}
 use Rattle.calls.proofs.Copying.{words-copied}

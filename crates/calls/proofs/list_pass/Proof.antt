@@ -9,7 +9,7 @@ use Rattle.forwarding.specs.Trace.{Event, listTrace}
 use Rattle.model.specs.Model.{fabricIn}
 use Rattle.events.specs.Play.{play, listed}
 use Rattle.backtrace.specs.Pass.{begin}
-use Rattle.calls.proofs.Targets.{edge-asked, edge-traced}
+use Rattle.queries.proofs.Targets.{edge-asked, edge-traced}
 use Rattle.calls.proofs.list_pass.Statement.{statement}
 use Rattle.calls.proofs.list_pass.Tie as tie
 

@@ -4,11 +4,13 @@ use borrow.Author.Needs.{needs}
 use denote.Ref.{now}
 use native.Mathlib.Omega.{arith}
 use Rattle.model.proofs.Lookups.{edge-past, edge-looked-up}
-use Rattle.calls.proofs.is_edge.Statement.{statement}
-use Rattle.calls.proofs.is_edge.Tie as tie
+use Rattle.queries.proofs.is_edge.Statement.{statement}
+use Rattle.queries.proofs.is_edge.Tie as tie
 
 returns : tie.Need-returns
-returns c = sym (edge-past (now (c .before .args .file)) (c .before .args .shape) (c .before .pre .0) (c .before .args .port) (c .if1 .taken))
+returns c =
+    let s = c .before in
+    sym (edge-past (now (s .args .file)) (s .args .shape) (s .pre .0) (s .args .port) (c .if1 .taken))
 
 mul-result : tie.Need-mul-result
 mul-result c = search needs

@@ -3,8 +3,8 @@ use mathlib.Core.Bool.{Bool, not, _&&_}
 use mathlib.Core.Path.{ap}
 use borrow.Author.Needs.{needs}
 use lib.Dec.{eqb}
-use Rattle.calls.proofs.lost_asked.Statement.{statement}
-use Rattle.calls.proofs.lost_asked.Tie as tie
+use Rattle.queries.proofs.lost_asked.Statement.{statement}
+use Rattle.queries.proofs.lost_asked.Tie as tie
 
 miss-drops-requires : tie.Need-miss-drops-requires
 miss-drops-requires c κs = search needs

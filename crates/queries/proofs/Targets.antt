@@ -6,7 +6,7 @@ use borrow.Author.Tests.{ne-eqb}
 use Rattle.headers.specs.Sets.{Set}
 use Rattle.forwarding.specs.Fabric.{Fabric, Sound}
 use Rattle.forwarding.specs.Trace.{trace, listTrace}
-use Rattle.calls.specs.Questions.{listTarget}
+use Rattle.queries.specs.Queries.{listTarget}
 
 -- 0 asks for the packets that are lost, where they are
 pub lost-asked : (F : Fabric) → Sound F → listTarget F 0 ≡ true → F .missDrops ≡ false

@@ -4,8 +4,8 @@ use mathlib.Core.Path.{ap, ap₂, _∙_}
 use Prim.Native.Nat.{ℕ}
 use borrow.Author.Needs.{needs}
 use Rattle.questions.specs.Questions.{pick}
-use Rattle.calls.proofs.trace_no.Statement.{statement}
-use Rattle.calls.proofs.trace_no.Tie as tie
+use Rattle.queries.proofs.trace_no.Statement.{statement}
+use Rattle.queries.proofs.trace_no.Tie as tie
 
 is-tidy-requires : tie.Need-is-tidy-requires
 is-tidy-requires c κs = search needs
