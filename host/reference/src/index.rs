@@ -1,5 +1,5 @@
 //! Plain indexes for the back-trace, made once a call: entries by out-port and by
-//! in-port, beaters by entry, what stands at an entry's in-port.
+//! in-port, beaters by entry, what stands at an in-port.
 
 use std::iter::successors;
 
@@ -27,6 +27,7 @@ pub struct Index<'f> {
     beaters: Vec<u16>,
     /// Entry `i` is beaten by `beaters[starts[i]..starts[i + 1]]`.
     starts: Vec<usize>,
+    /// By port.
     origins: Vec<Origin>,
     matches: Vec<Set>,
 }
@@ -67,16 +68,15 @@ impl<'f> Index<'f> {
         &self.beaters[self.starts[entry]..self.starts[entry + 1]]
     }
 
-    /// What stands at this entry's in-port.
-    pub fn origin(&self, entry: u16) -> Origin {
-        self.origins[usize::from(entry)]
+    /// What stands at this port.
+    pub fn origin(&self, port: u16) -> Origin {
+        self.origins[usize::from(port)]
     }
 
     /// Where packets come in: "Edge ports and link ends are taken in rising number".
-    /// Each with what stands there.
-    pub fn in_ports(&self) -> Vec<(u16, Origin)> {
-        let mut in_ports: Vec<_> = open_ports(self.fabric).collect();
-        in_ports.sort_by_key(|(port, _)| *port);
+    pub fn in_ports(&self) -> Vec<u16> {
+        let mut in_ports: Vec<_> = open_ports(self.fabric).map(|(port, _)| port).collect();
+        in_ports.sort();
         in_ports
     }
 
@@ -139,17 +139,13 @@ fn open_ports(fabric: &Fabric) -> impl Iterator<Item = (u16, Origin)> + '_ {
     ends.chain(edges)
 }
 
-/// What stands at each entry's in-port.
+/// What stands at each port.
 fn origins(fabric: &Fabric) -> Vec<Origin> {
-    let mut at_port = vec![Origin::Nothing; PORTS];
+    let mut origins = vec![Origin::Nothing; PORTS];
     for (port, origin) in open_ports(fabric) {
-        if let Some(place) = at_port.get_mut(usize::from(port)) {
+        if let Some(place) = origins.get_mut(usize::from(port)) {
             *place = origin;
         }
     }
-    let in_ports = fabric.entries.iter().map(|entry| entry.in_port);
-    in_ports
-        .map(|port| at_port.get(usize::from(port)).copied())
-        .map(|origin| origin.unwrap_or(Origin::Nothing))
-        .collect()
+    origins
 }

@@ -100,9 +100,9 @@ impl<V: FnMut(&Find) -> ControlFlow<()>> Tracer<'_, '_, V> {
     /// survives. At an edge port that is after no hop; where a link ends, after one at
     /// least, so that the stop behind it has the limit less one hop left.
     fn lost(&mut self, asked: &Set, left: usize) -> Result<(), Halt> {
-        for (port, origin) in self.index.in_ports() {
-            let here: Vec<u16> = self.index.with_in_port(port).collect();
-            self.carve(origin, &here, asked, left)?;
+        for in_port in self.index.in_ports() {
+            let here: Vec<u16> = self.index.with_in_port(in_port).collect();
+            self.carve(in_port, &here, asked, left)?;
         }
         Ok(())
     }
@@ -117,11 +117,12 @@ impl<V: FnMut(&Find) -> ControlFlow<()>> Tracer<'_, '_, V> {
         let index = self.index;
         for entry in index.with_out_port(out_port) {
             self.unit()?;
-            let undone = index.fabric().entries[usize::from(entry)].undo(wanted);
+            let taken_up = &index.fabric().entries[usize::from(entry)];
+            let undone = taken_up.undo(wanted);
             let part = undone.and_then(|set| set.intersect(index.matching(entry)));
             if let Some(part) = part {
                 self.path[left - 1] = entry;
-                self.carve(index.origin(entry), index.beaters(entry), &part, left)?;
+                self.carve(taken_up.in_port, index.beaters(entry), &part, left)?;
             }
         }
         Ok(())
@@ -132,7 +133,7 @@ impl<V: FnMut(&Find) -> ControlFlow<()>> Tracer<'_, '_, V> {
     /// sibling." A part that doesn't meet the beater goes on alone.
     fn carve(
         &mut self,
-        origin: Origin,
+        in_port: u16,
         beaters: &[u16],
         part: &Set,
         left: usize,
@@ -142,19 +143,19 @@ impl<V: FnMut(&Find) -> ControlFlow<()>> Tracer<'_, '_, V> {
             let beater = self.index.matching(beater);
             if part.meets(beater) {
                 for piece in part.split(beater) {
-                    self.carve(origin, &beaters[tried + 1..], &piece, left)?;
+                    self.carve(in_port, &beaters[tried + 1..], &piece, left)?;
                 }
                 return Ok(());
             }
         }
-        self.survived(origin, part, left)
+        self.survived(in_port, part, left)
     }
 
     /// "If that is an edge port, the part is a find. If a link ends there and
     /// more than one hop was left, a stop follows at its from-port with one
     /// hop less."
-    fn survived(&mut self, origin: Origin, part: &Set, left: usize) -> Result<(), Halt> {
-        match origin {
+    fn survived(&mut self, in_port: u16, part: &Set, left: usize) -> Result<(), Halt> {
+        match self.index.origin(in_port) {
             Origin::Edge(edge) => self.find(usize::from(edge), part, left),
             Origin::Link(from) if left > 1 => self.stop(from, part, left - 1),
             Origin::Link(_) | Origin::Nothing => Ok(()),
