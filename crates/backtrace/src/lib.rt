@@ -32,7 +32,7 @@ pub struct Passed {
 // Where numbers stand in `ask`.
 const FLOOR: usize = 2;
 
-const BASE: usize = 5;
+pub const BASE: usize = 5;
 
 // ---- the path
 

@@ -20,6 +20,7 @@ use Rattle.forwarding.specs.Trace.{Event, unit, find, carved, fromPort, atInPor
 use Rattle.forwarding.specs.Trace.{isInPort, inPorts, entriesIn, lostAt, lostTrace, listTrace, units, finds}
 use Rattle.forwarding.proofs.Budget.{ends-within}
 use Rattle.model.specs.Model.{fabricOf, fabricIn}
+use Rattle.model.proofs.Shapes.{ports-are}
 use Rattle.events.specs.Play.{Played, findWords, listWords}
 use Rattle.events.proofs.ListPlayed.{wordsOf, ListedAll, listed-all, listed-stops}
 use Rattle.backtrace.specs.Pass.{begin, playedThen}
@@ -199,10 +200,6 @@ module _ (F : Fabric) (four : F .words ≡ 4) where
 four-words : (f : List ℕ) → fabricIn f .words ≡ 4
 unfolding fabricIn fabricOf
 four-words f = refl
-
-ports-are : (f : List ℕ) → fabricIn f .ports ≡ 4096
-unfolding fabricIn fabricOf
-ports-are f = refl
 
 -- ---- the passes
 

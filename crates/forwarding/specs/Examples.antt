@@ -15,7 +15,7 @@ use Rattle.forwarding.specs.Fabric.{Entry, Fabric, holds, beats, applied
 use Rattle.forwarding.specs.Run.{Packet, left, dropped, missed, travelling, tied, unbeaten, takes, takers, hop, run}
 use Rattle.forwarding.specs.Run.{fateOf, portOf, headerOf, takenBy, hopsMade}
 use Rattle.forwarding.specs.BackTrace.{back, beaters, survivors, backTraced}
-use Rattle.forwarding.specs.Trace.{unit, find, carved, atInPort, takenUp, stop, trace, lostAt, lostTrace}
+use Rattle.forwarding.specs.Trace.{unit, find, carved, atInPort, takenUp, stop, trace, lostAt, lostTrace, listTrace}
 use Rattle.forwarding.specs.Verdict.{isolated, reached, foreignPacket, verdict, verdictOn, endsWithin, verdictWithin}
 
 abbrev pub header : ℕ → ℕ → ℕ → ℕ → Header
@@ -302,7 +302,7 @@ lost-at-limit-1 = refl
 abbrev losingByChoice : Fabric
 losingByChoice = linked 3 4 (entryOf 10 1 2 (allWild 4) (noAction 4) ∷ entryOf 10 1 3 (allWild 4) (noAction 4) ∷ [])
 
-lost-by-choice : lostTrace losingByChoice 2 (tpDst 80)
+lost-by-choice : listTrace losingByChoice 2 0 (tpDst 80)
     ≡ unit
     ∷ find (record { port = 2; path = []; set = tpDst 80 })
     ∷ unit
@@ -310,6 +310,11 @@ lost-by-choice : lostTrace losingByChoice 2 (tpDst 80)
     ∷ []
 unfolding computing
 lost-by-choice = refl
+
+-- V8: with another target the list is of what arrives there
+arriving-by-choice : listTrace losingByChoice 2 2 (tpDst 80) ≡ unit ∷ find (record { port = 1; path = 0 ∷ []; set = tpDst 80 }) ∷ []
+unfolding computing
+arriving-by-choice = refl
 
 -- T17: edge ports 1 and 5, and the link's end 4 between them
 abbrev endBetween : Fabric

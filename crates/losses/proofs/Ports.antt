@@ -13,6 +13,7 @@ use Rattle.headers.specs.Sets.{Set}
 use Rattle.forwarding.specs.Fabric.{inPortOf}
 use Rattle.forwarding.specs.Trace.{Event, stop, carved, atInPort, isInPort, lostAt, lostTrace}
 use Rattle.model.specs.Model.{shapeIn, edgeAt, fabricOf, fabricIn}
+use Rattle.model.proofs.Shapes.{ports-are}
 use Rattle.index.specs.Index.{placeAt, firstIn}
 use Rattle.index.proofs.Chained.{Next}
 use Rattle.entries.proofs.Those.{from, from-here, from-end, from-skip}
@@ -34,10 +35,6 @@ place-there f x = go (ltb 0 (edgeAt f (shapeIn f) x))
     go : (b : Bool) → (b || ltb 0 (fabricIn f .linkFrom x)) ≡ ltb 0 (cond b (4095 + edgeAt f (shapeIn f) x) (fabricIn f .linkFrom x))
     go true = sym (lt-ltb 0 (4095 + edgeAt f (shapeIn f) x) (omega arith))
     go false = refl
-
-ports-are : (f : List ℕ) → fabricIn f .ports ≡ 4096
-unfolding fabricIn fabricOf
-ports-are f = refl
 
 -- the in-ports from a port on
 abbrev in-ports : List ℕ → ℕ → List ℕ

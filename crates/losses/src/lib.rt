@@ -1,5 +1,6 @@
 // The packets that are lost, traced back from every port where a packet can stand (specs/Losses.antt): what the entries there leave of the
 // asked set goes on as any part does, by stop and carving.
+use backtrace::BASE;
 use backtrace::Passed;
 use headers::HeaderSet;
 use index::CELLS;
@@ -13,9 +14,6 @@ ghost use Rattle.events.specs.Asked.{floorOf};
 ghost use Rattle.backtrace.specs.Cycle.{Tracing, Traced};
 ghost use Rattle.backtrace.specs.Pass.{playedThen};
 ghost use Rattle.losses.specs.Losses.{lostEvents, lostPassOf};
-
-// Where a number stands in `ask`.
-const BASE: usize = 5;
 
 // One more than the highest port.
 const PORTS: usize = records::PORTS as usize;

@@ -29,6 +29,11 @@ pub miss-is : (f : List ℕ) → fabricIn f .missDrops ≡ eqb (choiceOf (wordAt
 unfolding fabricIn fabricOf
 miss-is f = refl
 
+-- F9
+pub ports-are : (f : List ℕ) → fabricIn f .ports ≡ 4096
+unfolding fabricIn fabricOf
+ports-are f = refl
+
 module _ (f : List ℕ) (s : Shape) where
   -- an entry reads as its own bytes say
   pub entry-is : (e : ℕ) → e < s .entries → fabricOf f s .entry e ≡ entryFrom (entryBytes f s e)

@@ -1,12 +1,12 @@
--- Where questions 1, 3 and 7 (Q1, Q3, Q7) change their answer, computed: a length of 40,200 bytes, the bits of an entry's second word, and
--- the last record within each of the four limits.
+-- Where questions 1, 2, 3 and 7 (Q1, Q2, Q3, Q7) change their answer, computed: a length of 40,200 bytes, the bits of the start and of an
+-- entry's second word, and the last record within each of the four limits.
 use mathlib.Core.Bool.{Bool, true, false, _&&_}
 use mathlib.Core.List.{[], _∷_, _++_}
 use mathlib.Core.Path.{_≡_, refl}
 use Prim.Native.Nat.{ℕ}
 use lib.ListN.{replicate}
 use Rattle.records.specs.Words.{wordAt}
-use Rattle.questions.specs.Questions.{sized, afterStart, zeroBits, transferKnown, withinLimits}
+use Rattle.questions.specs.Questions.{sized, started, afterStart, zeroBits, transferKnown, withinLimits}
 
 -- ---- Q1, the length
 
@@ -17,6 +17,25 @@ lengths = refl
 longest : (sized (replicate 40200 0) ∷ sized (replicate 40204 0) ∷ []) ≡ true ∷ false ∷ []
 unfolding sized
 longest = refl
+
+-- ---- Q2, the start
+
+-- a file of two words of which the first has these four bytes, the highest first
+abbrev start : ℕ → ℕ → ℕ → ℕ → Bool
+start a b c d = started (d ∷ c ∷ b ∷ a ∷ replicate 4 0)
+
+-- version 1 and two words, under OpenFlow 1.0 and 1.3; another kind; versions 0, 2 and 1,025; a word more
+starts : (start 0x10 1 0 2
+    ∷ start 0x18 1 0 2
+    ∷ start 0x20 1 0 2
+    ∷ start 0x10 0 0 2
+    ∷ start 0x10 2 0 2
+    ∷ start 0x14 1 0 2
+    ∷ start 0x10 1 0 3
+    ∷ [])
+    ≡ true ∷ true ∷ false ∷ false ∷ false ∷ false ∷ false ∷ []
+unfolding started wordAt
+starts = refl
 
 -- ---- Q3, an entry's second word
 

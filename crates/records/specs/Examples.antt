@@ -4,7 +4,7 @@ use mathlib.Core.List.{List, [], _∷_, _++_}
 use mathlib.Core.Path.{_≡_, refl}
 use Prim.Native.Nat.{ℕ, zero, suc}
 use Rattle.headers.specs.declared.Transfer.the-variants.{Keep, Copy, Swap}
-use Rattle.records.specs.Words.{wordAt, bytesFrom, kindOf, transferOf, portOf, fromOf, rankOf}
+use Rattle.records.specs.Words.{wordAt, bytesFrom, kindOf, versionOf, countOf, choiceOf, transferOf, portOf, fromOf, rankOf}
 use Rattle.records.specs.Records.{edgeWords, edgeGroup, edgePort, edgeAdmitted, edgeBytes, portOfEdge}
 use Rattle.records.specs.Records.{fromOfLink, toOfLink, placeOf}
 use Rattle.records.specs.Records.{entryWords, entryPriority, entryIn, entryOut, entryMatch, entryRewrite, entryAction, transferAt}
@@ -19,6 +19,14 @@ little-endian = refl
 fields : (kindOf 0x7fedcba9 ∷ transferOf 0x7fedcba9 ∷ rankOf 0x7fedcba9 ∷ fromOf 0x7fedcba9 ∷ portOf 0x7fedcba9 ∷ [])
     ≡ 7 ∷ 7 ∷ 0xfedc ∷ 0xedc ∷ 0xba9 ∷ []
 fields = refl
+
+-- F3, F16: a start's choice in bit 27, its version in 26..16, the word count in 15..0
+start-fields : (choiceOf 0x1fedcba9 ∷ versionOf 0x1fedcba9 ∷ countOf 0x1fedcba9 ∷ []) ≡ 1 ∷ 0x7ed ∷ 0xcba9 ∷ []
+start-fields = refl
+
+-- the bits beside it are not the choice
+start-choices : (choiceOf 0x17edcba9 ∷ choiceOf 0x18000000 ∷ versionOf 0x18000000 ∷ []) ≡ 0 ∷ 1 ∷ 0 ∷ []
+start-choices = refl
 
 -- ---- a record's words
 
