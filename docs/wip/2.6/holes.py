@@ -27,7 +27,8 @@ for c in sys.argv[3:]:
             fns.append((ty if m.group(1) else None,m.group(2)))
     def put(path,mod,name):
         d=f"{dst}/proofs/{path}"; os.makedirs(d,exist_ok=True)
-        open(f"{d}/Proof.antt","w").write(f"use Rattle.{c}.proofs.{mod}.Statement.{{statement}}\n\npub {name}-spec : {{M : Type 1}} → statement M\n{name}-spec = ?\n")
+        where=mod if mod.startswith("+") else mod+".Statement"
+        open(f"{d}/Proof.antt","w").write(f"use Rattle.{c}.proofs.{where}.{{statement}}\n\npub {name}-spec : {{M : Type 1}} → statement M\n{name}-spec = ?\n")
     for t,f in fns:
         if f in cyc: continue
         mod=f"{t}.{f}" if t else f; put(mod.replace(".","/"),mod.replace("_","_"),f.replace("_","-"))
