@@ -1,36 +1,49 @@
 #!/usr/bin/env python3
-# mkholes.py REPO OUT CRATE... : copies of crates whose function proofs are holes
-import sys,os,re,shutil
-repo,out=sys.argv[1:3]
-for c in sys.argv[3:]:
-    src=f"{repo}/crates/{c}"; dst=f"{out}/{c}"
-    if os.path.exists(dst): shutil.rmtree(dst)
-    os.makedirs(dst)
-    for d in("src","specs"): 
-        if os.path.exists(f"{src}/{d}"): shutil.copytree(f"{src}/{d}",f"{dst}/{d}")
-    os.makedirs(f"{dst}/proofs")
-    for r,ds,fs in os.walk(f"{src}/proofs"):
-        rel=os.path.relpath(r,f"{src}/proofs")
-        if 'Proof.antt' in fs: ds[:]=[]; continue
-        for f in fs:
-            if f.endswith('.antt'):
-                os.makedirs(f"{dst}/proofs/{rel}",exist_ok=True); shutil.copy(f"{r}/{f}",f"{dst}/proofs/{rel}/{f}")
-    text=open(f"{src}/src/lib.rt").read()
-    cyc=["carve","descend","stop"] if c=="backtrace" else []
-    fns=[];ty=None
-    for l in text.split("\n"):
-        m=re.match(r"impl (\w+)",l)
-        if m: ty=m.group(1)
-        if l=="}": ty=None if ty and not l.startswith(" ") else ty
-        m=re.match(r"(\s*)(?:pub )?(?:extern \"C\" )?fn (\w+)",l)
-        if m:
-            fns.append((ty if m.group(1) else None,m.group(2)))
-    def put(path,mod,name):
-        d=f"{dst}/proofs/{path}"; os.makedirs(d,exist_ok=True)
-        where=mod if mod.startswith("+") else mod+".Statement"
-        open(f"{d}/Proof.antt","w").write(f"use Rattle.{c}.proofs.{where}.{{statement}}\n\npub {name}-spec : {{M : Type 1}} → statement M\n{name}-spec = ?\n")
-    for t,f in fns:
-        if f in cyc: continue
-        mod=f"{t}.{f}" if t else f; put(mod.replace(".","/"),mod.replace("_","_"),f.replace("_","-"))
-    if cyc: 
-        n="+"+"+".join(cyc); put(n,n,n)
+"""holes.py REPOSITORY OUT CRATE...: copies crates to OUT with their code, definitions and laws, and a hole for each function's proof."""
+import pathlib
+import re
+import shutil
+import sys
+
+# functions that call one another have one proof
+CYCLES = {"backtrace": ["carve", "descend", "stop"]}
+PROOF = "use Rattle.{crate}.proofs.{at}.{{statement}}\n\npub {name}-spec : {{M : Type 1}} → statement M\n{name}-spec = ?\n"
+
+
+def functions(text):
+    """The functions of a lib.rt, a method with its type before it."""
+    owner = None
+    for line in text.splitlines():
+        if found := re.match(r"impl (\w+)", line):
+            owner = found[1]
+        elif line == "}":
+            owner = None
+        elif found := re.match(r'(\s*)(?:pub )?(?:extern "C" )?fn (\w+)', line):
+            yield ([owner] if found[1] else []) + [found[2]]
+
+
+def put(proofs, crate, path, at):
+    folder = proofs.joinpath(*path)
+    folder.mkdir(parents=True, exist_ok=True)
+    (folder / "Proof.antt").write_text(PROOF.format(crate=crate, at=at, name=path[-1].replace("_", "-")))
+
+
+def copy(source, target, crate):
+    shutil.rmtree(target, ignore_errors=True)
+    for part in ("src", "specs", "proofs"):
+        if (source / part).is_dir():
+            shutil.copytree(source / part, target / part)
+    for proof in list((target / "proofs").rglob("Proof.antt")):
+        shutil.rmtree(proof.parent)
+    cycle = CYCLES.get(crate, [])
+    for path in functions((source / "src/lib.rt").read_text()):
+        if path[-1] not in cycle:
+            put(target / "proofs", crate, path, ".".join(path) + ".Statement")
+    if cycle:
+        name = "+" + "+".join(cycle)
+        put(target / "proofs", crate, [name], name)
+
+
+repository, out = map(pathlib.Path, sys.argv[1:3])
+for crate in sys.argv[3:]:
+    copy(repository / "crates" / crate, out / crate, crate)
