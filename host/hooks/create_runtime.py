@@ -21,6 +21,8 @@ import sys
 
 ANNOTATION = "mwishovala.volumes"
 MOST_PORT = 4095
+# What the gate says of a fabric of version 1 and of version 2.
+EVERY_HEADER = {1: "every IPv4 header", 2: "every Ethernet and IPv4 header"}
 # A gate that takes longer is no answer; the usual budget ends well before.
 SECONDS = 300
 
@@ -75,7 +77,8 @@ def path(value, name):
 def ask(command, fabric, port):
     """Refuses but for status 0 and the line that goes with it, about the file that stands there."""
     with open(fabric, "rb") as file:
-        digest = hashlib.sha256(file.read()).hexdigest()
+        there = file.read()
+    digest = hashlib.sha256(there).hexdigest()
     gate = subprocess.run(
         [command, "gate", "--", fabric, str(port)],
         stdin=subprocess.DEVNULL,
@@ -84,10 +87,16 @@ def ask(command, fabric, port):
         timeout=SECONDS,
         check=False,
     )
-    isolated = f"isolated: port {port}, every IPv4 header, 16 hops, sha256 {digest}\n"
+    headers = EVERY_HEADER.get(version_of(there))
+    isolated = f"isolated: port {port}, {headers}, 16 hops, sha256 {digest}\n"
     if gate.returncode != 0 or gate.stdout != isolated.encode():
         said = (gate.stdout + gate.stderr).decode(errors="replace").strip()
         raise Refused(f"{fabric}, port {port}: status {gate.returncode}: {said}")
+
+
+def version_of(fabric):
+    """The version in bits 26..16 of a fabric's first word."""
+    return int.from_bytes(fabric[:4], "little") >> 16 & 0x7FF
 
 
 if __name__ == "__main__":

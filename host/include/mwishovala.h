@@ -9,9 +9,9 @@
  * that got a no, 1 to 13, the place is the number of the record's first word in
  * the file or 0, and every byte of the area stays.
  *
- * Stack: give a thread that makes calls FABRIC_STACK_BYTES at least. 416 KiB of
- * them were measured for the deepest fabric that is accepted, 68 KiB for a run,
- * and the rest is margin. Where a call runs out of stack the process is killed.
+ * Stack: give a thread that makes calls FABRIC_STACK_BYTES at least, of either
+ * version. The deepest fabric that is accepted was measured to take less, and the
+ * rest is margin. Where a call runs out of stack the process is killed.
  * Threads: the library has no state. Any number of calls may be made at once,
  * also on the same file, but each on an area of its own.
  * Length 0: the pointer is then not used, and may be NULL. With any other length
@@ -26,9 +26,17 @@
  * every choice. 'Reached' and each find show one choice, so a packet run of the
  * same header may stop with fate 4, which says that there is a choice to make.
  *
- * Table miss: bit 27 of a file's first word chooses OpenFlow 1.3 over 1.0, and
- * the version, which is 1, is the eleven bits below. A packet that no entry takes
- * is lost under 1.0 and dropped under 1.3. Verdicts are the same under both.
+ * Versions: bits 26..16 of a file's first word are its version, 1 or 2. Each call
+ * is there for both: fabric_verdict, fabric_list and fabric_run for version 1,
+ * fabric_verdict_v2, fabric_list_v2 and fabric_run_v2 for version 2. A file of the
+ * other version gets number 2, or number 1 if it is longer than this version's
+ * files are. What differs is how many words a header has, 4 or 8, and with it a
+ * care, a value, an edge (9 or 17), an entry (18 or 34), an answer (24 or 28); and
+ * the limits: 512 entries and 40200 bytes, or 400 entries and 59784 bytes.
+ *
+ * Table miss: bit 27 of a file's first word chooses OpenFlow 1.3 over 1.0. A packet
+ * that no entry takes is lost under 1.0 and dropped under 1.3. Verdicts are the
+ * same under both.
  *
  * Addresses: before it rewrites, an entry may copy nw_src over nw_dst or swap the
  * two. Bits 31..28 of its second word say which, 1 or 2; with 0 it does neither,
@@ -36,7 +44,12 @@
  *
  * The care and value words are the asked header set; for a run, the packet's
  * header, with every care bit set. A header has four words: nw_src; nw_dst;
- * tp_src (high 16 bits) and tp_dst; dl_vlan (high 16), nw_tos (8), nw_proto.
+ * tp_src (high 16 bits) and tp_dst; dl_vlan (high 16), nw_tos (8), nw_proto. In
+ * version 2 four more follow: dl_src, its high 32 bits; dl_src, its low 16 (high
+ * 16 bits), and dl_dst, its high 16; dl_dst, its low 32; dl_type (high 16),
+ * dl_vlan_pcp (8), and 8 bits that are zero. Those 8 have to be zero in every care
+ * and rewrite mask, or number 5 comes of the file and 10 of the asked set; a run's
+ * care is 0xffffff00 in that word and 0xffffffff in the others.
  */
 #ifndef MWISHOVALA_H
 #define MWISHOVALA_H
@@ -48,13 +61,14 @@
 extern "C" {
 #endif
 
-/* The bytes that a verdict or a run needs: 24 words. */
+/* The bytes that a verdict or a run needs: 24 words, or 28 in version 2. */
 #define FABRIC_ANSWER_BYTES 96
+#define FABRIC_ANSWER_BYTES_V2 112
 
 /* The least stack of a thread that makes calls. */
-#define FABRIC_STACK_BYTES (512 * 1024)
+#define FABRIC_STACK_BYTES (576 * 1024)
 
-/* Which library this is: "mwishovala 0.4.0, commit 0123456789ab", with -dirty
+/* Which library this is: "mwishovala 0.5.0, commit 0123456789ab", with -dirty
  * behind a commit that isn't all, or unknown in its place. */
 extern const char mwishovala_version[];
 
@@ -99,6 +113,32 @@ uint64_t fabric_run(const uint8_t *file, size_t file_len,
                     uint32_t start, uint32_t limit, uint32_t budget,
                     uint32_t care0, uint32_t care1, uint32_t care2, uint32_t care3,
                     uint32_t value0, uint32_t value1, uint32_t value2, uint32_t value3);
+
+/* The same for files of version 2. A verdict and a run fill 28 words, the header
+ * having 8 of them; a find has 8 words of care and 8 of value. */
+uint64_t fabric_verdict_v2(const uint8_t *file, size_t file_len,
+                           uint8_t *area, size_t area_len,
+                           uint32_t target, uint32_t limit, uint32_t budget,
+                           uint32_t care0, uint32_t care1, uint32_t care2, uint32_t care3,
+                           uint32_t care4, uint32_t care5, uint32_t care6, uint32_t care7,
+                           uint32_t value0, uint32_t value1, uint32_t value2, uint32_t value3,
+                           uint32_t value4, uint32_t value5, uint32_t value6, uint32_t value7);
+
+uint64_t fabric_list_v2(const uint8_t *file, size_t file_len,
+                        uint8_t *area, size_t area_len,
+                        uint32_t target, uint32_t limit, uint32_t budget,
+                        uint32_t care0, uint32_t care1, uint32_t care2, uint32_t care3,
+                        uint32_t care4, uint32_t care5, uint32_t care6, uint32_t care7,
+                        uint32_t value0, uint32_t value1, uint32_t value2, uint32_t value3,
+                        uint32_t value4, uint32_t value5, uint32_t value6, uint32_t value7);
+
+uint64_t fabric_run_v2(const uint8_t *file, size_t file_len,
+                       uint8_t *area, size_t area_len,
+                       uint32_t start, uint32_t limit, uint32_t budget,
+                       uint32_t care0, uint32_t care1, uint32_t care2, uint32_t care3,
+                       uint32_t care4, uint32_t care5, uint32_t care6, uint32_t care7,
+                       uint32_t value0, uint32_t value1, uint32_t value2, uint32_t value3,
+                       uint32_t value4, uint32_t value5, uint32_t value6, uint32_t value7);
 
 #ifdef __cplusplus
 }

@@ -4,18 +4,20 @@
 mod tests;
 mod trace;
 
-pub use trace::{list, list_growing, verdict};
+pub use trace::{isolated, list, list_growing, verdict};
 
 use std::num::NonZeroU8;
 
 use crate::explain::{reason, Asked};
-use crate::header::{Header, HeaderSet};
+use crate::header::Header;
 use crate::query::Query;
-use crate::raw;
+use crate::raw::RUN;
 use crate::refusal::{Question, Refusal};
 use crate::run::Run;
+use crate::version::Version;
 
-/// Whether a file is an accepted fabric: questions 1 to 7.
+/// Whether a file is an accepted fabric: questions 1 to 7, of the version that it
+/// names.
 ///
 /// ```
 /// let start_and_end = [2, 0, 1, 0x10, 0, 0, 0, 0x50];
@@ -24,12 +26,20 @@ use crate::run::Run;
 /// assert_eq!(refusal.to_string(), "question 1: the file has 7 bytes, fewer than 8");
 /// ```
 pub fn accept(file: &[u8]) -> Result<(), Refusal> {
+    match Version::of_file(file) {
+        Version::V1 => accept_as::<4>(file),
+        Version::V2 => accept_as::<8>(file),
+    }
+}
+
+/// The same by the calls of one version, which refuse a file of the other one.
+pub(crate) fn accept_as<const N: usize>(file: &[u8]) -> Result<(), Refusal> {
     // The first question after the file's is the hop limit's.
-    let no_hops = Query {
+    let no_hops = Query::<N> {
         hops: 0,
         ..Query::packet(0, Header::default())
     };
-    let ask = |area: &mut [u8]| raw::run(file, area, no_hops.numbers());
+    let ask = |area: &mut [u8]| RUN.make(file, area, &no_hops);
     accepted(make(file, &no_hops, &mut [], ask))
 }
 
@@ -59,36 +69,38 @@ fn accepted(asked: Result<usize, Refusal>) -> Result<(), Refusal> {
 /// assert_eq!(way.entries[..], [0]);
 /// # Ok::<(), Box<dyn std::error::Error>>(())
 /// ```
-pub fn run(file: &[u8], start: u32, header: Header, hops: u32) -> Result<Run, Refusal> {
+pub fn run<const N: usize>(
+    file: &[u8],
+    start: u32,
+    header: Header<N>,
+    hops: u32,
+) -> Result<Run<N>, Refusal> {
     let query = Query {
-        port: start,
         hops,
-        budget: 0,
-        asked: HeaderSet::only(header),
+        ..Query::packet(start, header)
     };
-    let words: [u32; raw::RUN_WORDS] =
-        answer(file, &query, |area| raw::run(file, area, query.numbers()))?;
+    let words = answer(file, &query, |area| RUN.make(file, area, &query))?;
     Run::read(&words)
 }
 
-/// Makes a call that fills so many words.
-fn answer<const WORDS: usize>(
+/// Makes a call that fills as many words as a verdict or a run.
+fn answer<const N: usize>(
     file: &[u8],
-    query: &Query,
+    query: &Query<N>,
     call: impl FnOnce(&mut [u8]) -> u64,
-) -> Result<[u32; WORDS], Refusal> {
+) -> Result<Vec<u32>, Refusal> {
     // What is left unwritten can't pass for an answer.
-    let mut area = [[u8::MAX; 4]; WORDS];
+    let mut area = vec![[u8::MAX; 4]; Version::of::<N>().answer_words()];
     match make(file, query, area.as_flattened_mut(), call)? {
-        words if words == WORDS => Ok(area.map(u32::from_le_bytes)),
+        words if words == area.len() => Ok(area.into_iter().map(u32::from_le_bytes).collect()),
         _ => Err(Refusal::unknown()),
     }
 }
 
 /// Makes a call on the area lent: the words written, or the refusal.
-fn make(
+fn make<const N: usize>(
     file: &[u8],
-    query: &Query,
+    query: &Query<N>,
     area: &mut [u8],
     call: impl FnOnce(&mut [u8]) -> u64,
 ) -> Result<usize, Refusal> {

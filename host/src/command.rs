@@ -2,6 +2,7 @@
 
 mod arguments;
 mod audit;
+mod covered;
 mod describe;
 mod dot;
 mod foreign;
@@ -21,16 +22,20 @@ mod table;
 mod threads;
 mod ties;
 mod verdict;
+mod widen;
+mod written;
 
 use std::ffi::OsString;
 use std::io::{self, BufWriter, Write};
 use std::process::ExitCode;
 
-use arguments::Order;
+use arguments::{Order, Task};
 use inquiry::advice;
 use json::Members;
+use source::Source;
 
 use crate::refusal::Refusal;
+use crate::version::Version;
 
 /// Statuses: nothing foreign gets through, something does, no answer.
 const ISOLATED: u8 = 0;
@@ -91,14 +96,39 @@ fn perform(order: Order, out: Output) -> Result<u8, Failure> {
             out.write_all(text.as_bytes())?;
             Ok(status)
         }
-        Order::Verdict(trace) => verdict::verdict(&trace, out),
-        Order::Gate(gate) => gate::gate(&gate, out),
-        Order::List(trace) => list::list(&trace, out),
-        Order::Run(packet) => run::run(&packet, out),
-        Order::Audit(audit) => audit::audit(&audit, out),
-        Order::Show(file) => show::show(&file, out),
         Order::Pack { text, file } => pack::pack(&text, &file, out),
-        Order::Dot(picture) => dot::dot(&picture, out),
+        Order::About(file, task) => {
+            let bytes = file.read()?;
+            match Version::of_file(&bytes) {
+                Version::V1 => perform_on::<4>(&file, bytes, &task, out),
+                Version::V2 => perform_on::<8>(&file, bytes, &task, out),
+            }
+        }
+    }
+}
+
+/// Does it with a fabric whose headers have so many words, as its file says.
+fn perform_on<const N: usize>(
+    file: &Source,
+    bytes: Vec<u8>,
+    task: &Task,
+    out: Output,
+) -> Result<u8, Failure> {
+    let mut loaded = file.load::<N>(bytes)?;
+    // The line that a mount hangs on has no names in it.
+    if !matches!(task, Task::Gate(_)) {
+        loaded.names = file.names()?;
+    }
+    let loaded = &loaded;
+    match task {
+        Task::Verdict(trace) => verdict::verdict(loaded, trace, out),
+        Task::Gate(gate) => gate::gate(loaded, gate, out),
+        Task::List(trace) => list::list(loaded, trace, out),
+        Task::Run(packet) => run::run(loaded, packet, out),
+        Task::Audit(audit) => audit::audit(loaded, audit, out),
+        Task::Show => show::show(loaded, out),
+        Task::Widen { file: wide } => widen::widen(file, loaded, wide, out),
+        Task::Dot(query) => dot::dot(loaded, query.as_ref(), out),
     }
 }
 

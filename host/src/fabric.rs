@@ -3,10 +3,11 @@
 #[cfg(test)]
 mod tests;
 
-use crate::calls::accept;
+use crate::calls::accept_as;
 use crate::openflow::OpenFlow;
 use crate::record::{file_of, Edge, Entry, Link, Record, Unwritable};
 use crate::refusal::Refusal;
+use crate::version::Version;
 use crate::words::Words;
 
 /// What a fabric file says. An entry's number is its index.
@@ -32,9 +33,44 @@ pub struct Fabric<const N: usize = 4> {
 }
 
 impl Fabric {
-    /// The records of a file that the proved library accepts.
+    /// The records of a file of version 1 that the proved library accepts;
+    /// [`AnyFabric::read`] reads both versions.
     pub fn read(file: &[u8]) -> Result<Fabric, Refusal> {
-        accept(file)?;
+        Fabric::accepted(file)
+    }
+}
+
+/// A fabric of either version.
+///
+/// ```
+/// use mwishovala::{text, AnyFabric};
+/// let file = text::pack("edge 1 group 7 admits any")?;
+/// assert!(matches!(AnyFabric::read(&file)?, AnyFabric::V1(_)));
+/// # Ok::<(), Box<dyn std::error::Error>>(())
+/// ```
+#[derive(Clone, Debug, PartialEq, Eq)]
+pub enum AnyFabric {
+    /// Of version 1.
+    V1(Fabric<4>),
+    /// Of version 2.
+    V2(Fabric<8>),
+}
+
+impl AnyFabric {
+    /// The records of a file that the proved library accepts, by the version that
+    /// the file names.
+    pub fn read(file: &[u8]) -> Result<AnyFabric, Refusal> {
+        match Version::of_file(file) {
+            Version::V1 => Fabric::accepted(file).map(AnyFabric::V1),
+            Version::V2 => Fabric::accepted(file).map(AnyFabric::V2),
+        }
+    }
+}
+
+impl<const N: usize> Fabric<N> {
+    /// The records of a file of this version that the proved library accepts.
+    pub(crate) fn accepted(file: &[u8]) -> Result<Fabric<N>, Refusal> {
+        accept_as::<N>(file)?;
         Fabric::whole(file).ok_or_else(|| Refusal {
             reason: "the library accepts a file that this host can't read whole".into(),
             ..Refusal::unknown()
@@ -43,13 +79,13 @@ impl Fabric {
 
     /// The records of a file, if they are all that it says: written again, they
     /// are its bytes.
-    fn whole(file: &[u8]) -> Option<Fabric> {
+    fn whole(file: &[u8]) -> Option<Fabric<N>> {
         let fabric = Fabric::before(Words(file), usize::MAX);
         (fabric.to_bytes().as_deref() == Ok(file)).then_some(fabric)
     }
 
     /// What the start says, and the records before this place, as they stand.
-    pub(crate) fn before(words: Words, place: usize) -> Fabric {
+    pub(crate) fn before(words: Words, place: usize) -> Fabric<N> {
         let mut fabric = Fabric {
             openflow: words.openflow(),
             ..Fabric::default()
@@ -73,9 +109,31 @@ impl Fabric {
         let entries = self.entries.iter().copied().map(Record::Entry);
         file_of(self.openflow, edges.chain(links).chain(entries))
     }
-}
 
-impl<const N: usize> Fabric<N> {
+    /// The same fabric in headers of another number of words, which are wild, and
+    /// not rewritten, where they are more. None if one of its sets cares for a
+    /// word that these headers don't have. Whether it is accepted is for `accept`
+    /// to say: version 2 has fewer entries.
+    ///
+    /// ```
+    /// use mwishovala::{text, Fabric, Version};
+    /// let fabric = Fabric::read(&text::pack("edge 1 group 7 admits nw_src=10.0.0.0/24")?)?;
+    /// let wide: Fabric<8> = fabric.resized().unwrap();
+    /// assert_eq!(Version::of_file(&wide.to_bytes()?), Version::V2);
+    /// assert_eq!(wide.resized(), Some(fabric));
+    /// # Ok::<(), Box<dyn std::error::Error>>(())
+    /// ```
+    pub fn resized<const M: usize>(&self) -> Option<Fabric<M>> {
+        let edges = self.edges.iter().map(Edge::resized);
+        let entries = self.entries.iter().map(Entry::resized);
+        Some(Fabric {
+            openflow: self.openflow,
+            edges: edges.collect::<Option<_>>()?,
+            links: self.links.clone(),
+            entries: entries.collect::<Option<_>>()?,
+        })
+    }
+
     /// The edge at this port, if it is an edge port.
     pub fn edge(&self, port: u16) -> Option<&Edge<N>> {
         self.edges.iter().find(|edge| edge.port == port)

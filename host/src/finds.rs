@@ -2,6 +2,7 @@
 
 use crate::header::HeaderSet;
 use crate::path::{port_in, Path};
+use crate::version::Version;
 use crate::words::Words;
 
 /// The kinds of a find's first word, and of those with its entries.
@@ -52,10 +53,11 @@ impl<const N: usize> Iterator for Finds<'_, N> {
         let set_at = 1 + hops as usize;
         let taken = |place| words.get(place).filter(|word| word >> 28 == TAKEN);
         let entries = (1..set_at).map_while(taken).map(|word| word & 0xfff_ffff);
+        let path = Path::new(Version::of::<N>(), entries);
         let find = Find {
             port: port_in(first & 0xfff)?,
             hops,
-            entries: Path::new(entries).filter(|path| path.len() == hops as usize)?,
+            entries: path.filter(|path| path.len() == hops as usize)?,
             set: words.set(set_at)?,
         };
         self.rest = self.rest.get(4 * (set_at + 2 * N)..)?;

@@ -1,8 +1,10 @@
-//! Headers and header sets, as so many words each: four in files of version 1.
+//! Headers and header sets, as so many words each: four in files of version 1,
+//! eight in those of version 2.
 
 use crate::field::Field;
+use crate::version::Version;
 
-/// A header: 128 bits in four words, or as many more as it has.
+/// A header: 128 bits in four words, or 256 in eight.
 #[derive(Clone, Copy, Debug, PartialEq, Eq, Hash)]
 pub struct Header<const N: usize = 4>(pub [u32; N]);
 
@@ -47,12 +49,22 @@ impl<const N: usize> HeaderSet<N> {
         value: [0; N],
     };
 
-    /// The set with this header alone.
+    /// The set with this header alone, which cares for every bit of a field.
     pub fn only(header: Header<N>) -> HeaderSet<N> {
         HeaderSet {
-            care: [u32::MAX; N],
+            care: fields(),
             value: header.0,
         }
+    }
+
+    /// The same set in headers of another number of words: wild in those that
+    /// are more. None if it cares for a word, or has a value there, that these
+    /// headers don't have.
+    pub fn resized<const M: usize>(&self) -> Option<HeaderSet<M>> {
+        Some(HeaderSet {
+            care: resized(&self.care)?,
+            value: resized(&self.value)?,
+        })
     }
 
     /// Whether this header is in it.
@@ -124,10 +136,34 @@ impl<const N: usize> HeaderSet<N> {
         std::array::from_fn(|word| self.value[word] & !self.care[word])
     }
 
+    /// The bits cared for that no field has.
+    pub(crate) fn cared_past_fields(&self) -> [u32; N] {
+        let fields = fields::<N>();
+        std::array::from_fn(|word| self.care[word] & !fields[word])
+    }
+
     /// The bits that both care for and that have different values.
     fn differing(&self, value: &[u32; N], care: &[u32; N]) -> [u32; N] {
         std::array::from_fn(|word| (self.value[word] ^ value[word]) & self.care[word] & care[word])
     }
+}
+
+/// The bits that fields of so many words have.
+fn fields<const N: usize>() -> [u32; N] {
+    let mut bits = [0; N];
+    for field in Field::all_in(Version::of::<N>()) {
+        // The field is in these words, so nothing is refused.
+        let _ = field.add(&mut bits, field.full());
+    }
+    bits
+}
+
+/// These words, and behind them 0; none if one that isn't 0 would be left out.
+fn resized<const N: usize, const M: usize>(words: &[u32; N]) -> Option<[u32; M]> {
+    let (kept, left_out) = words.split_at(N.min(M));
+    let mut resized = [0; M];
+    resized[..kept.len()].copy_from_slice(kept);
+    left_out.iter().all(|&word| word == 0).then_some(resized)
 }
 
 /// The word of a bit, which is counted from word 0 bit 31, and its mask there.

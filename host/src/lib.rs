@@ -20,6 +20,12 @@
 //! 1.3. A list of [`Query::lost`] has every header that is lost, and
 //! [`Fabric::miss`] says where.
 //!
+//! A file is of version 1 or 2, by which a header has four words or, with
+//! Ethernet's fields, eight. [`AnyFabric::read`] reads a file of either; what
+//! holds headers has their number of words as its parameter, 4 where it isn't
+//! named, and a call on a [`Query`] is that version's: a file of the other one
+//! gets a no to question 2. [`accept`] and [`isolated`] go by what the file says.
+//!
 //! No function here panics, whatever bytes it is given. A thread that makes a
 //! call needs [`limits::STACK_BYTES`] of stack at least.
 
@@ -55,15 +61,16 @@ mod takers;
 pub mod text;
 mod ties;
 mod verdict;
+mod version;
 mod walks;
 mod words;
 
 pub use action::Transfer;
-pub use calls::{accept, run};
+pub use calls::{accept, isolated, run};
 pub use calls::{list, list_growing, verdict};
 pub use digest::Digest;
 pub use equals::Equals;
-pub use fabric::Fabric;
+pub use fabric::{AnyFabric, Fabric};
 pub use field::{Field, MOST_FIELD_BITS};
 pub use finds::{Find, Finds};
 pub use header::{Header, HeaderSet};
@@ -71,10 +78,11 @@ pub use miss::Miss;
 pub use names::{NamedPort, Names, Unreadable, MOST_NAME};
 pub use openflow::OpenFlow;
 pub use path::Path;
-pub use query::{Query, Target, QUERY_NUMBERS, USUAL_BUDGET};
+pub use query::{Query, Target, QUERY_NUMBERS, QUERY_NUMBERS_V2, USUAL_BUDGET};
 pub use record::{Edge, Entry, Link, Unwritable};
 pub use refusal::{Place, Question, Refusal};
 pub use run::{Fate, Run};
 pub use takers::Hop;
 pub use ties::{Tie, MOST_PARTS};
 pub use verdict::Verdict;
+pub use version::Version;

@@ -44,12 +44,6 @@ impl OpenFlow {
             OpenFlow::V1_3 => "1.3",
         }
     }
-
-    /// The one with this name, if there is one.
-    pub(crate) fn named(name: &str) -> Option<OpenFlow> {
-        let mut all = OpenFlow::ALL.into_iter();
-        all.find(|openflow| openflow.name() == name)
-    }
 }
 
 impl fmt::Display for OpenFlow {

@@ -4,7 +4,8 @@ use std::fmt;
 use std::ops::Deref;
 
 use crate::header::Header;
-use crate::limits::{MOST_ENTRIES, MOST_HOPS, MOST_PORT};
+use crate::limits::{MOST_HOPS, MOST_PORT};
+use crate::version::Version;
 
 const HOPS: usize = MOST_HOPS as usize;
 
@@ -17,15 +18,15 @@ pub struct Path {
 
 impl Path {
     /// From a word for each entry; none if there are too many, or one is no
-    /// entry's number.
-    pub(crate) fn new(words: impl Iterator<Item = u32>) -> Option<Path> {
+    /// entry's number in this version.
+    pub(crate) fn new(version: Version, words: impl Iterator<Item = u32>) -> Option<Path> {
         let mut path = Path {
             entries: [0; HOPS],
             hops: 0,
         };
         for word in words {
             let number = u16::try_from(word).ok();
-            let number = number.filter(|&number| usize::from(number) < MOST_ENTRIES)?;
+            let number = number.filter(|&number| usize::from(number) < version.most_entries())?;
             *path.entries.get_mut(path.hops)? = number;
             path.hops += 1;
         }
@@ -67,7 +68,7 @@ impl<const N: usize> Way<N> {
             port: port_in(port)?,
             hops,
             header: Header(*header),
-            entries: Path::new(taken.iter().copied())?,
+            entries: Path::new(Version::of::<N>(), taken.iter().copied())?,
         })
     }
 }

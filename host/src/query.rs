@@ -2,6 +2,7 @@
 
 use crate::header::{Header, HeaderSet};
 use crate::limits::MOST_HOPS;
+use crate::version::Version;
 
 /// A query of document 01, but for its first word, which names the call.
 #[derive(Clone, Copy, Debug, PartialEq, Eq)]
@@ -52,13 +53,45 @@ impl Target {
 /// minute if all of it is used.
 pub const USUAL_BUDGET: u32 = 1_000_000_000;
 
-/// The numbers of a query on headers of four words: words 1 to 11.
-pub const QUERY_NUMBERS: usize = 11;
+/// The numbers of a query of version 1: its words 1 to 11.
+pub const QUERY_NUMBERS: usize = Version::V1.query_numbers();
+/// The numbers of a query of version 2: its words 1 to 19.
+pub const QUERY_NUMBERS_V2: usize = Version::V2.query_numbers();
+
+impl Query {
+    /// Whether any packet, whatever its header, gets out at this port within
+    /// 16 hops. Of a fabric of version 2, [`resized`](Query::resized) asks it.
+    pub fn all_wild(target: u32) -> Query {
+        Query::whole(target)
+    }
+
+    /// Which packets, whatever their headers, are lost after fewer than 16 hops:
+    /// for a list of a fabric of OpenFlow 1.0.
+    pub fn lost() -> Query {
+        Query::whole(LOST)
+    }
+
+    /// As the calls of version 1 take it.
+    pub fn numbers(&self) -> [u32; QUERY_NUMBERS] {
+        in_order(self.words())
+    }
+}
+
+impl Query<8> {
+    /// As the calls of version 2 take it.
+    pub fn numbers(&self) -> [u32; QUERY_NUMBERS_V2] {
+        in_order(self.words())
+    }
+}
+
+/// So many numbers as there are.
+fn in_order<const COUNT: usize>(mut words: impl Iterator<Item = u32>) -> [u32; COUNT] {
+    std::array::from_fn(|_| words.next().unwrap_or_default())
+}
 
 impl<const N: usize> Query<N> {
-    /// Whether any packet, whatever its header, gets out at this port within
-    /// 16 hops.
-    pub fn all_wild(target: u32) -> Query<N> {
+    /// Whatever the header, and all hops.
+    pub(crate) fn whole(target: u32) -> Query<N> {
         Query {
             port: target,
             hops: MOST_HOPS,
@@ -67,10 +100,15 @@ impl<const N: usize> Query<N> {
         }
     }
 
-    /// Which packets, whatever their headers, are lost after fewer than 16 hops:
-    /// for a list of a fabric of OpenFlow 1.0.
-    pub fn lost() -> Query<N> {
-        Query::all_wild(LOST)
+    /// The same of headers of another number of words, if it can be asked of them:
+    /// not if its set cares for a word that they don't have.
+    pub fn resized<const M: usize>(&self) -> Option<Query<M>> {
+        Some(Query {
+            port: self.port,
+            hops: self.hops,
+            budget: self.budget,
+            asked: self.asked.resized()?,
+        })
     }
 
     /// What a list that asks this is about.
@@ -81,19 +119,15 @@ impl<const N: usize> Query<N> {
     /// Where a packet with this header goes from this port within 16 hops.
     pub fn packet(start: u32, header: Header<N>) -> Query<N> {
         Query {
-            port: start,
-            hops: MOST_HOPS,
             budget: 0,
             asked: HeaderSet::only(header),
+            ..Query::whole(start)
         }
     }
-}
 
-impl Query {
-    /// As the library's calls take it.
-    pub fn numbers(&self) -> [u32; QUERY_NUMBERS] {
-        let ([c0, c1, c2, c3], [v0, v1, v2, v3]) = (self.asked.care, self.asked.value);
-        let (port, hops, budget) = (self.port, self.hops, self.budget);
-        [port, hops, budget, c0, c1, c2, c3, v0, v1, v2, v3]
+    /// Words 1 and on of the query: port, hops and budget, care, value.
+    pub(crate) fn words(&self) -> impl Iterator<Item = u32> {
+        let numbers = [self.port, self.hops, self.budget].into_iter();
+        numbers.chain(self.asked.care).chain(self.asked.value)
     }
 }

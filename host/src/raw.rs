@@ -8,7 +8,9 @@
 
 use std::ffi::{c_char, CStr};
 
-use crate::query::QUERY_NUMBERS;
+use crate::query::{Query, QUERY_NUMBERS, QUERY_NUMBERS_V2};
+use crate::refusal::NO_NUMBER;
+use crate::version::Version;
 
 /// Which library is linked, by version and commit.
 pub fn library() -> &'static str {
@@ -42,18 +44,29 @@ pub struct Call {
     pub answer: Answer,
 }
 
-/// The words that a verdict fills.
-pub const VERDICT_WORDS: usize = 24;
-/// The words that a run fills.
-pub const RUN_WORDS: usize = 24;
+/// The words that a verdict of version 1 fills.
+pub const VERDICT_WORDS: usize = Version::V1.answer_words();
+/// The words that a run of version 1 fills.
+pub const RUN_WORDS: usize = Version::V1.answer_words();
+/// The words that a verdict of version 2 fills.
+pub const VERDICT_WORDS_V2: usize = Version::V2.answer_words();
+/// The words that a run of version 2 fills.
+pub const RUN_WORDS_V2: usize = Version::V2.answer_words();
 
 /// One call, made safe: it reads slices, then comes the area lent, then its
-/// numbers; `query` are those of a query.
+/// numbers; `query` are those of a query of version 1, `query_v2` of version 2.
 macro_rules! call {
     ($(#[$says:meta])* $name:ident $symbol:ident ($($read:ident)+; query)) => {
         call! {
             $(#[$says])* $name $symbol
             ($($read)+; QUERY_NUMBERS: port limit budget c0 c1 c2 c3 v0 v1 v2 v3)
+        }
+    };
+    ($(#[$says:meta])* $name:ident $symbol:ident ($($read:ident)+; query_v2)) => {
+        call! {
+            $(#[$says])* $name $symbol
+            ($($read)+; QUERY_NUMBERS_V2: port limit budget
+             c0 c1 c2 c3 c4 c5 c6 c7 v0 v1 v2 v3 v4 v5 v6 v7)
         }
     };
     ($(#[$says:meta])* $name:ident $symbol:ident
@@ -102,4 +115,47 @@ calls! {
     list fabric_list (file; query) Answer::Finds;
     /// One packet's way; the query's budget is unused.
     run fabric_run (file; query) Answer::Words(RUN_WORDS);
+    /// [`verdict`] on a file of version 2.
+    verdict_v2 fabric_verdict_v2 (file; query_v2) Answer::Words(VERDICT_WORDS_V2);
+    /// [`list`] on a file of version 2.
+    list_v2 fabric_list_v2 (file; query_v2) Answer::Finds;
+    /// [`run`] on a file of version 2.
+    run_v2 fabric_run_v2 (file; query_v2) Answer::Words(RUN_WORDS_V2);
+}
+
+/// A call as each version has it.
+pub(crate) struct Versions {
+    v1: fn(&[u8], &mut [u8], [u32; QUERY_NUMBERS]) -> u64,
+    v2: fn(&[u8], &mut [u8], [u32; QUERY_NUMBERS_V2]) -> u64,
+}
+
+pub(crate) const VERDICT: Versions = Versions {
+    v1: verdict,
+    v2: verdict_v2,
+};
+pub(crate) const LIST: Versions = Versions {
+    v1: list,
+    v2: list_v2,
+};
+pub(crate) const RUN: Versions = Versions {
+    v1: run,
+    v2: run_v2,
+};
+
+impl Versions {
+    /// Makes the one that takes as many numbers as the query has.
+    pub(crate) fn make<const N: usize>(
+        &self,
+        file: &[u8],
+        area: &mut [u8],
+        query: &Query<N>,
+    ) -> u64 {
+        let numbers: Vec<u32> = query.words().collect();
+        match (numbers[..].try_into(), numbers[..].try_into()) {
+            (Ok(numbers), _) => (self.v1)(file, area, numbers),
+            (_, Ok(numbers)) => (self.v2)(file, area, numbers),
+            // No version has queries of another length.
+            _ => NO_NUMBER.get().into(),
+        }
+    }
 }

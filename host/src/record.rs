@@ -8,6 +8,7 @@ use crate::action::Transfer;
 use crate::header::HeaderSet;
 use crate::limits::MOST_PORT;
 use crate::openflow::OpenFlow;
+use crate::version::Version;
 use crate::words::Words;
 
 /// Kinds, in the order in which records stand in a file.
@@ -16,14 +17,6 @@ pub(crate) const EDGE: u32 = 2;
 pub(crate) const LINK: u32 = 3;
 pub(crate) const ENTRY: u32 = 4;
 pub(crate) const END: u32 = 5;
-
-/// The file's version, whose headers have four words.
-pub(crate) const VERSION: u32 = 1;
-
-/// The version in bits 26..16 of a start.
-pub(crate) fn version_of(start: u32) -> u32 {
-    start >> 16 & 0x7ff
-}
 
 /// An edge port, its group, and the headers that the group may send there.
 #[derive(Clone, Copy, Debug, PartialEq, Eq)]
@@ -34,6 +27,17 @@ pub struct Edge<const N: usize = 4> {
     pub port: u16,
     /// What its group may send there.
     pub admitted: HeaderSet<N>,
+}
+
+impl<const N: usize> Edge<N> {
+    /// The same in headers of another number of words, if it can be said in them.
+    pub(crate) fn resized<const M: usize>(&self) -> Option<Edge<M>> {
+        Some(Edge {
+            group: self.group,
+            port: self.port,
+            admitted: self.admitted.resized()?,
+        })
+    }
 }
 
 /// A link, one way.
@@ -69,6 +73,18 @@ impl<const N: usize> Entry<N> {
         self.in_port == other.in_port && self.priority > other.priority
     }
 
+    /// The same in headers of another number of words, if it can be said in them.
+    pub(crate) fn resized<const M: usize>(&self) -> Option<Entry<M>> {
+        Some(Entry {
+            priority: self.priority,
+            in_port: self.in_port,
+            out_port: self.out_port,
+            matching: self.matching.resized()?,
+            transfer: self.transfer,
+            rewrite: self.rewrite.resized()?,
+        })
+    }
+
     /// Whether either may take what both match, if none beats them.
     pub(crate) fn ranks_with(&self, other: &Entry<N>) -> bool {
         self.in_port == other.in_port && self.priority == other.priority
@@ -80,17 +96,6 @@ pub(crate) enum Record<const N: usize = 4> {
     Edge(Edge<N>),
     Link(Link),
     Entry(Entry<N>),
-}
-
-/// How many words a record of this kind has where a header has N; 0 if there is
-/// no such record.
-pub(crate) const fn record_words<const N: usize>(kind: u32) -> usize {
-    match kind {
-        EDGE => 1 + 2 * N,
-        ENTRY => 2 + 4 * N,
-        LINK | END => 1,
-        _ => 0,
-    }
 }
 
 impl<'f> Words<'f> {
@@ -195,9 +200,18 @@ impl<const N: usize> Record<N> {
         }
     }
 
+    /// The same in headers of another number of words, if it can be said in them.
+    pub(crate) fn resized<const M: usize>(&self) -> Option<Record<M>> {
+        Some(match self {
+            Record::Edge(edge) => Record::Edge(edge.resized()?),
+            Record::Link(link) => Record::Link(*link),
+            Record::Entry(entry) => Record::Entry(entry.resized()?),
+        })
+    }
+
     /// How many words it has.
     pub(crate) fn words(&self) -> usize {
-        record_words::<N>(self.kind())
+        Version::of::<N>().record_words(self.kind())
     }
 
     /// Adds its words.
@@ -229,9 +243,9 @@ fn port_bits(port: u16) -> Result<u32, Unwritable> {
 }
 
 /// The file of these records, which are in their order.
-pub(crate) fn file_of(
+pub(crate) fn file_of<const N: usize>(
     openflow: OpenFlow,
-    records: impl Iterator<Item = Record>,
+    records: impl Iterator<Item = Record<N>>,
 ) -> Result<Vec<u8>, Unwritable> {
     let mut words = vec![0];
     for record in records {
@@ -239,7 +253,8 @@ pub(crate) fn file_of(
     }
     words.push(END << 28);
     let count = u16::try_from(words.len()).map_err(|_| Unwritable::Words(words.len()))?;
-    words[0] = START << 28 | openflow.bit() | VERSION << 16 | u32::from(count);
+    let version = Version::of::<N>().number();
+    words[0] = START << 28 | openflow.bit() | version << 16 | u32::from(count);
     Ok(words.iter().flat_map(|word| word.to_le_bytes()).collect())
 }
 

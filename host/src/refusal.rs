@@ -27,12 +27,15 @@ pub struct Refusal {
     pub reason: String,
 }
 
+/// The number of a no that no library gives.
+pub(crate) const NO_NUMBER: NonZeroU8 = NonZeroU8::MAX;
+
 impl Refusal {
     /// An answer that no document has, by a library that this host doesn't
     /// know. Its number is none that a library gives.
     pub(crate) fn unknown() -> Refusal {
         Refusal {
-            question: Question::Unknown(NonZeroU8::MAX),
+            question: Question::Unknown(NO_NUMBER),
             place: 0,
             reason: "the library's answer is none of document 01's".into(),
         }

@@ -24,15 +24,22 @@
 //! may stand anywhere.
 //!
 //! `openflow` is 1.0 or 1.3, and 1.0 in a text without it: what becomes of a
-//! packet that no entry takes. It stands at most once, before every edge, link
-//! and entry, so that it is seen, and a text behind another one changes nothing
-//! of it.
+//! packet that no entry takes. `version` is 1 or 2, and 1 in a text without it: of
+//! version 2 are the fields dl_src, dl_dst, dl_type and dl_vlan_pcp. Each stands at
+//! most once, before every edge, link and entry, so that it is seen, and a text
+//! behind another one changes nothing of it.
+//!
+//! ```text
+//! version 2
+//! edge 1 group 7 admits dl_src=02:00:00:00:00:01,dl_type=ip
+//! entry 1 -> 2 priority 9 match dl_dst=02:00:00:00:00:00/ff:ff:ff:00:00:00,dl_type=0x0806
+//! ```
 
+mod choices;
 mod echo;
 mod line;
 mod lines;
 mod names;
-mod openflow;
 mod pack;
 mod sentence;
 mod sets;

@@ -1,6 +1,7 @@
 //! Hosts in other languages: `callers/` has one in C, one in C++ and one in
-//! Python, which make all three calls through the header and the archive. What
-//! they get is what the reference computes.
+//! Python, which make all calls of both versions through the header and the
+//! archive. What they get of version 1 is what the reference computes, and of
+//! version 2 what this host gets, whose declarations are others.
 
 #[path = "common/command.rs"]
 mod command;
@@ -12,8 +13,8 @@ use std::path::{Path, PathBuf};
 use std::process::Command;
 
 use command::folder;
-use common::{reference_alone, to_host, Call, LIST, RUN, VERDICT};
-use mwishovala::{limits, raw};
+use common::{fresh, reference_alone, to_host, Call, LIST, RUN, VERDICT};
+use mwishovala::{limits, raw, QUERY_NUMBERS_V2};
 use reference::examples::{
     fabric_f, leak_by_choice, lost_after_two_hops, run_query, under_1_3, wild_query,
 };
@@ -100,15 +101,27 @@ impl Caller {
 
     /// Makes a call, and compares code and area with the reference's.
     fn check(&self, call: Call, file: &[u8], lent: usize, asked: &Query) {
+        let expected = reference_alone(call, file, lent, asked);
+        self.compare(call.name, file, &to_host(asked).numbers(), expected);
+    }
+
+    /// The same of version 2, with what this host gets.
+    fn check_v2(&self, call: CallV2, file: &[u8], lent: usize, asked: &mwishovala::Query<8>) {
+        let mut area = fresh(lent);
+        let code = (call.1)(file, &mut area, asked.numbers());
+        self.compare(call.0, file, &asked.numbers(), (code, area));
+    }
+
+    /// What is said of this call is that code and area.
+    fn compare(&self, call: &str, file: &[u8], numbers: &[u32], (code, area): (u64, Vec<u8>)) {
         let path = self.folder.join("fabric");
         fs::write(&path, file).unwrap();
-        let mut told = vec![call.name.into(), path.into(), lent.to_string().into()];
-        let numbers = to_host(asked).numbers();
+        let mut told = vec![call.into(), path.into(), area.len().to_string().into()];
+        let numbers = numbers.iter();
         told.extend(numbers.map(|number| OsString::from(number.to_string())));
-        let (code, area) = reference_alone(call, file, lent, asked);
         let hex: String = area.iter().map(|byte| format!("{byte:02x}")).collect();
         let expected = format!("{} at {}\n{hex}\n", code % 256, code / 256);
-        assert_eq!(self.said(told), expected, "{}: {asked:x?}", call.name);
+        assert_eq!(self.said(told), expected, "{call}");
     }
 
     fn check_all(&self, first_seed: u64) {
@@ -116,6 +129,7 @@ impl Caller {
         self.check_deepest();
         self.check_equals();
         self.check_misses();
+        self.check_version_2();
         cases(first_seed, 20, |rng| {
             let fabric = any(rng);
             let mut file = write(&fabric);
@@ -167,6 +181,31 @@ impl Caller {
         }
     }
 
+    /// Each of the asked words counts, so none is handed over in another's place.
+    fn check_version_2(&self) {
+        let text = "version 2\nedge 1 group 7 admits any\nedge 2 group 9 admits any\n\
+                    entry 1 -> 2 priority 10 match any\n";
+        let file = mwishovala::text::pack(text).unwrap();
+        let header: [u32; 8] = std::array::from_fn(|word| (word as u32 + 1) << 8);
+        let found = mwishovala::Query::packet(1, mwishovala::Header(header));
+        let packet = mwishovala::Query {
+            port: 2,
+            budget: 99,
+            ..found
+        };
+        for (call, asked) in CALLS_V2.into_iter().zip([packet, packet, found]) {
+            self.check_v2(call, &file, 4000, &asked);
+            self.check_v2(call, &file, 111, &asked);
+            self.check_v2(call, &[], 0, &asked);
+            self.check_v2(call, &fabric_f(), 4000, &asked);
+            for word in 0..8 {
+                let mut other = asked;
+                other.asked.value[word] ^= 1 << 31;
+                self.check_v2(call, &file, 4000, &other);
+            }
+        }
+    }
+
     /// The most stack.
     fn check_deepest(&self) {
         let ring = deep_ring();
@@ -175,6 +214,18 @@ impl Caller {
         self.check(LIST, &file, 1 << 15, &ring.query);
     }
 }
+
+/// A call of version 2, by its name and as this host makes it.
+type CallV2 = (
+    &'static str,
+    fn(&[u8], &mut [u8], [u32; QUERY_NUMBERS_V2]) -> u64,
+);
+
+const CALLS_V2: [CallV2; 3] = [
+    ("verdict_v2", raw::verdict_v2),
+    ("list_v2", raw::list_v2),
+    ("run_v2", raw::run_v2),
+];
 
 #[test]
 fn a_host_in_c() {
@@ -194,8 +245,9 @@ fn a_host_in_python() {
 /// The header's numbers are the library's, and each host sees which it is.
 #[test]
 fn what_header_and_archive_say_of_themselves() {
-    let (answer, stack) = (4 * raw::VERDICT_WORDS, limits::STACK_BYTES);
-    let expected = format!("{answer} {stack}\n{}\n", raw::library());
+    let answers = [raw::VERDICT_WORDS, raw::VERDICT_WORDS_V2].map(|words| 4 * words);
+    let ([v1, v2], stack) = (answers, limits::STACK_BYTES);
+    let expected = format!("{v1} {v2} {stack}\n{}\n", raw::library());
     assert_eq!(Caller::c("caller-says").said(vec![]), expected);
     let python = Caller::python("caller-python-says");
     assert_eq!(python.said(vec![]), format!("{}\n", raw::library()));

@@ -149,7 +149,7 @@ fn refusals_are_told() {
     let folder = with_f("refusals");
     with_newer(&folder);
     fs::write(folder.join("short"), [1, 2, 3]).unwrap();
-    fs::write(folder.join("version"), [2, 0, 2, 0x18, 0, 0, 0, 0x50]).unwrap();
+    fs::write(folder.join("version"), [2, 0, 3, 0x18, 0, 0, 0, 0x50]).unwrap();
     for (line, said) in [
         (
             "verdict f.fabric 3",
@@ -174,7 +174,7 @@ fn refusals_are_told() {
         ),
         (
             "show version",
-            "version: question 2: the start is of version 2, not 1",
+            "version: question 2: the start is of version 3, not 1 or 2",
         ),
         (
             "list f.fabric 2 --budget 1",

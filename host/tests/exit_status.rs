@@ -164,7 +164,7 @@ fn two_dashes_end_the_options() {
 }
 
 /// One line for each command that succeeds where its output can be written.
-const WRITTEN: [&str; 13] = [
+const WRITTEN: [&str; 14] = [
     "verdict f.fabric 1",
     "gate f.fabric 1",
     "list f.fabric 2",
@@ -173,6 +173,7 @@ const WRITTEN: [&str; 13] = [
     "audit f.fabric --asked tp_dst=1",
     "show f.fabric",
     "pack f.txt -",
+    "widen f.fabric -",
     "dot f.fabric",
     "help",
     "man",

@@ -91,9 +91,9 @@ fn reached() {
     }
 }
 
-/// A container stays down if one choice among entries of the same priority, or a
-/// reply with the addresses swapped, lets something foreign to its volume, and
-/// comes up if nothing does.
+/// A container stays down if one choice among entries of the same priority, a
+/// reply with the addresses swapped, or a frame that is no IPv4 lets something
+/// foreign to its volume, and comes up if nothing does.
 #[test]
 fn as_the_stories_end() {
     let folder = configured("hook-stories");
@@ -110,6 +110,9 @@ fn as_the_stories_end() {
         ("reply-swap.closed", None),
         ("table-miss", None),
         ("table-miss.newer", None),
+        ("other-frames.ipv4", None),
+        ("other-frames", Some("reached: port 2, from port 1, sha256")),
+        ("other-frames.closed", None),
     ] {
         let said = fs::read_to_string(stories.join(format!("{story}.fabric.txt"))).unwrap();
         fs::write(&fabric, pack(&said).unwrap()).unwrap();
@@ -208,6 +211,26 @@ fn another_command() {
     instead(&folder, &format!("{changed}\n\"{PROGRAM}\" \"$@\""));
     is_refused(&folder, STATE, "status 0: isolated: port 1");
     instead(&folder, &format!("exec \"{PROGRAM}\" \"$@\""));
+    assert_eq!(hook(&folder, STATE).0, Some(0));
+}
+
+/// The line has to be about as much as the file's version can say.
+#[test]
+fn another_versions_line() {
+    let folder = configured("hook-other-version");
+    let said = |sed: &str| format!("\"{PROGRAM}\" \"$@\" | sed '{sed}'");
+    let (less, more) = ("s/Ethernet and //", "s/IPv4/Ethernet and IPv4/");
+    instead(&folder, &said(more));
+    is_refused(&folder, STATE, "status 0: isolated: port 1");
+    let wide = Command::new(PROGRAM)
+        .args(["widen", "f.fabric", "wide.fabric"])
+        .current_dir(&folder)
+        .output();
+    assert!(wide.unwrap().status.success());
+    fs::rename(folder.join("wide.fabric"), folder.join("f.fabric")).unwrap();
+    instead(&folder, &said(less));
+    is_refused(&folder, STATE, "status 0: isolated: port 1");
+    instead(&folder, &said(""));
     assert_eq!(hook(&folder, STATE).0, Some(0));
 }
 

@@ -36,7 +36,7 @@ fn examples(page: &str) -> Vec<(Vec<&str>, Value)> {
 }
 
 /// The page's fabrics, in order.
-const FABRICS: [&str; 5] = ["volumes", "tied", "replies", "misses", "drops"];
+const FABRICS: [&str; 6] = ["volumes", "tied", "replies", "misses", "drops", "frames"];
 
 #[test]
 fn the_pages_examples_are_what_is_printed() {

@@ -140,7 +140,7 @@ fn lists_around_65_536_bytes() {
 }
 
 #[test]
-fn half_a_mebibyte_of_stack_is_enough() {
+fn the_least_stack_is_enough() {
     assert_eq!(checks::with_little_stack(LIST, ROOM) % 256, 0);
 }
 

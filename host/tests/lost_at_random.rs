@@ -405,7 +405,7 @@ fn deepest() -> Fabric {
 }
 
 #[test]
-fn half_a_mebibyte_of_stack_is_enough() {
+fn the_least_stack_is_enough() {
     let deepest = deepest();
     let asked = wild_query(0, 16, MOST_UNITS);
     let needs = needs(&deepest, &asked, MOST_UNITS).unwrap();

@@ -10,7 +10,7 @@ use std::process::Command;
 
 use command::{folder, in_a_shell, ran, with_f, Ran, COMMANDS};
 use mwishovala::limits::*;
-use mwishovala::USUAL_BUDGET;
+use mwishovala::{Field, Version, USUAL_BUDGET};
 
 fn printed(line: &str) -> String {
     ran(Path::new("."), line).text().to_string()
@@ -165,8 +165,11 @@ fn the_help_says_the_limits() {
     let help = printed("--help").replace('\n', " ");
     for said in [
         format!("Ports are 1 to {MOST_PORT}."),
-        format!("At most {MOST_EDGES} edges, {MOST_LINKS} links, {MOST_ENTRIES} entries,"),
-        format!(" {MOST_AT_IN_PORT} of them at one in-port."),
+        format!("At most {MOST_EDGES} edges, {MOST_LINKS} links, {MOST_ENTRIES} entries ("),
+        format!(
+            "({} in version 2), {MOST_AT_IN_PORT} of them at one in-port.",
+            Version::V2.most_entries()
+        ),
         format!("the most hops, 1 to {MOST_HOPS} (default: {MOST_HOPS})"),
         format!("(default: {USUAL_BUDGET})"),
     ] {
@@ -203,6 +206,33 @@ fn the_help_says_what_entries_do_to_headers() {
     }
 }
 
+/// And which fields are of version 2, how they are written, and how it is chosen.
+#[test]
+fn the_help_says_what_version_2_has() {
+    let help = printed("--help").replace('\n', " ");
+    for said in [
+        "and, of version 2 alone, dl_src, dl_dst, dl_type, dl_vlan_pcp.",
+        "dl_src, dl_dst  02:00:00:00:00:01  02:00:00:00:00:00/ff:ff:ff:00:00:00",
+        "dl_type=ip, arp, ipv6",
+        "A line 'version 2' says that headers have Ethernet's fields too",
+    ] {
+        assert!(help.contains(said), "{said}");
+    }
+    for field in Field::ALL {
+        let (of_both, of_2) = help.split_once("of version 2 alone,").unwrap();
+        let listed = if field.is_in(Version::V1) {
+            of_both
+        } else {
+            of_2
+        };
+        assert!(listed.contains(field.name()), "{}", field.name());
+    }
+    assert!(printed("help gate").contains("every Ethernet"));
+    let widen = printed("help widen").replace('\n', " ");
+    let most = Version::V2.most_entries();
+    assert!(widen.contains(&format!("or with more than {most} entries, is refused.")));
+}
+
 /// And what becomes of a packet that no entry takes.
 #[test]
 fn the_help_says_what_no_entry_takes() {
@@ -210,9 +240,10 @@ fn the_help_says_what_no_entry_takes() {
         let said = printed(line).replace('\n', " ").replace("\\(aq", "'");
         let rule =
             "A line 'openflow 1.3' says that a packet which no entry takes is dropped; with \
-                    'openflow 1.0', or without such a line, it is lost. It stands at most once, \
-                    and before every edge, link and entry.";
+                    'openflow 1.0', or without such a line, it is lost.";
         assert!(said.contains(rule), "{line}");
+        let once = "Each stands at most once, and before every edge, link and entry.";
+        assert!(said.contains(once), "{line}");
     }
     let list = printed("help list").replace('\n', " ");
     for said in [
@@ -222,7 +253,7 @@ fn the_help_says_what_no_entry_takes() {
     ] {
         assert!(list.contains(said), "{said}");
     }
-    assert!(printed("--help").contains("list also\ntakes 'lost' as TARGET."));
+    assert!(printed("--help").contains("list also takes 'lost' as TARGET."));
     assert!(printed("help run").contains("A packet that no entry takes is lost or, under OpenFlow"));
     assert!(printed("help show").contains("'openflow 1.3'"));
 }

@@ -32,8 +32,8 @@ fn questions_1_to_3_in_words() {
         "question 2: word 0 is 0x40010002, which is no start"
     );
     assert_eq!(
-        start(0x10020002),
-        "question 2: the start is of version 2, not 1"
+        start(0x10030002),
+        "question 2: the start is of version 3, not 1 or 2"
     );
     assert_eq!(
         start(0x10010003),
@@ -134,7 +134,7 @@ fn questions_4_to_7_in_words() {
 
 #[test]
 fn questions_of_a_run_in_words() {
-    let of = |start, hops| run(&fabric_f(), start, Header::default(), hops).unwrap_err();
+    let of = |start, hops| run(&fabric_f(), start, Header::<4>::default(), hops).unwrap_err();
     assert_eq!(
         of(3, 1).to_string(),
         "question 11: the start, port 3, is no edge port"

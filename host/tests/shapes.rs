@@ -3,7 +3,7 @@
 
 use std::num::NonZeroU8;
 
-use mwishovala::{limits, raw, Field, Header, HeaderSet, Place, Question};
+use mwishovala::{limits, raw, Field, Header, HeaderSet, Place, Question, Version};
 use reference::random::{cases, Rng};
 
 /// Headers of eight words, with an Ethernet address that begins in one word
@@ -49,22 +49,60 @@ fn bits(word: u32) -> [bool; 32] {
     std::array::from_fn(|place| word >> (31 - place) & 1 == 1)
 }
 
-/// The seven fields cover the four words, each bit once.
+/// The seven fields cover the four words, each bit once; the eleven the eight, but
+/// for the last eight bits.
 #[test]
 fn no_bit_is_left_out() {
-    let widths = Field::ALL.map(Field::width);
-    assert_eq!(widths.iter().sum::<usize>(), 128);
-    cases(12_100_000, 200, |rng: &mut Rng| {
-        let header = Header([0; 4].map(|_| rng.draw() as u32));
-        let mut bits = Field::ALL.into_iter().fold(Vec::new(), |mut bits, field| {
-            let value = header.get(field);
-            bits.extend((0..field.width()).rev().map(|bit| value >> bit & 1 == 1));
-            bits
+    fn check<const N: usize>(covered: usize) {
+        let fields: Vec<Field> = Field::all_in(Version::of::<N>()).collect();
+        let widths = fields.iter().map(|field| field.width());
+        assert_eq!(widths.sum::<usize>(), covered);
+        cases(12_100_000, 200, |rng: &mut Rng| {
+            let header = Header([0; N].map(|_| rng.draw() as u32));
+            let bits = fields.iter().fold(Vec::new(), |mut bits, &field| {
+                let value = header.get(field);
+                bits.extend((0..field.width()).rev().map(|bit| value >> bit & 1 == 1));
+                bits
+            });
+            let mut expected: Vec<bool> =
+                header.0.iter().flat_map(|word| self::bits(*word)).collect();
+            expected.truncate(covered);
+            assert_eq!(bits, expected);
         });
-        bits.truncate(128);
-        let expected: Vec<bool> = header.0.iter().flat_map(|word| self::bits(*word)).collect();
-        assert_eq!(bits, expected);
-    });
+    }
+    check::<4>(128);
+    check::<8>(248);
+}
+
+/// Where document 02 has them: word and bits, from the high end.
+#[test]
+fn ethernets_fields() {
+    let header = Header([
+        0,
+        0,
+        0,
+        0,
+        0x0102_0304,
+        0x0506_a1a2,
+        0xa3a4_a5a6,
+        0x86dd_0700,
+    ]);
+    for (field, value) in [
+        (Field::DL_SRC, 0x0102_0304_0506),
+        (Field::DL_DST, 0xa1a2_a3a4_a5a6),
+        (Field::DL_TYPE, 0x86dd),
+        (Field::DL_VLAN_PCP, 7),
+    ] {
+        assert_eq!(header.get(field), value, "{}", field.name());
+        assert!(field.is_in(Version::V2) && !field.is_in(Version::V1));
+        assert_eq!(Field::named(field.name()), Some(field));
+    }
+    let care = HeaderSet::only(header).care;
+    assert_eq!(
+        (care[..7].to_vec(), care[7]),
+        (vec![u32::MAX; 7], 0xffff_ff00)
+    );
+    assert_eq!(HeaderSet::only(Header([0; 4])).care, [u32::MAX; 4]);
 }
 
 /// Each number is one question's, and an unknown one stays what it is.
@@ -89,11 +127,28 @@ fn questions_by_number() {
 fn limits_are_document_01s() {
     assert_eq!(limits::LEAST_FILE_BYTES, 8);
     assert_eq!(limits::MOST_FILE_BYTES, 40_200);
+    let by_version = Version::ALL.map(|version| {
+        (
+            (version.number(), version.words(), version.most_entries()),
+            (version.most_file_bytes(), version.query_numbers()),
+            version.answer_words(),
+        )
+    });
+    assert_eq!(
+        by_version,
+        [
+            ((1, 4, 512), (40_200, 11), 24),
+            ((2, 8, 400), (59_784, 19), 28)
+        ]
+    );
     let words: Vec<_> = raw::CALLS.iter().map(|call| call.answer).collect();
     let answers = [
         raw::Answer::Words(24),
         raw::Answer::Finds,
         raw::Answer::Words(24),
+        raw::Answer::Words(28),
+        raw::Answer::Finds,
+        raw::Answer::Words(28),
     ];
     assert_eq!(words, answers);
 }

@@ -7,7 +7,7 @@ use std::fs;
 use std::path::Path;
 
 use command::{folder, mwishovala};
-use mwishovala::{text, Fabric, HeaderSet};
+use mwishovala::{text, AnyFabric, Fabric, HeaderSet};
 
 fn tell(story: &str) {
     let stories = Path::new(env!("CARGO_MANIFEST_DIR")).join("stories");
@@ -65,6 +65,11 @@ fn no_entry_of_the_second_switch_takes_it() {
 }
 
 #[test]
+fn frames_that_are_no_ipv4() {
+    tell("other-frames");
+}
+
+#[test]
 fn beaters_attribute_by_attribute() {
     tell("trap-attributes");
 }
@@ -95,14 +100,23 @@ fn ports_have_a_protocol() {
             continue;
         }
         let file = text::pack(&fs::read_to_string(&path).unwrap()).unwrap();
-        for entry in Fabric::read(&file).unwrap().entries {
-            let on_ports = entry.matching.care[2] | entry.rewrite.care[2] != 0;
-            let tcp: HeaderSet = "nw_proto=tcp".parse().unwrap();
-            assert!(!on_ports || entry.matching.is_within(&tcp), "{path:?}");
-            with_ports += u32::from(on_ports);
-        }
+        with_ports += match AnyFabric::read(&file).unwrap() {
+            AnyFabric::V1(fabric) => entries_with_ports(&fabric, &path),
+            AnyFabric::V2(fabric) => entries_with_ports(&fabric, &path),
+        };
     }
     assert_eq!(with_ports, 16);
+}
+
+/// How many entries match or write ports, all of them of TCP.
+fn entries_with_ports<const N: usize>(fabric: &Fabric<N>, path: &Path) -> u32 {
+    let tcp: HeaderSet<N> = "nw_proto=tcp".parse().unwrap();
+    let entries = fabric.entries.iter().map(|entry| {
+        let on_ports = entry.matching.care[2] | entry.rewrite.care[2] != 0;
+        assert!(!on_ports || entry.matching.is_within(&tcp), "{path:?}");
+        u32::from(on_ports)
+    });
+    entries.sum()
 }
 
 /// No story is left out above.
@@ -115,5 +129,5 @@ fn all_are_told() {
         path.extension()
             .is_some_and(|extension| extension == "session")
     });
-    assert_eq!(sessions.count(), 11);
+    assert_eq!(sessions.count(), 12);
 }

@@ -2,7 +2,7 @@
 //! wrong is said with its line and column.
 
 use mwishovala::text::{pack, show, Wrong};
-use mwishovala::{accept, Fabric, HeaderSet, OpenFlow};
+use mwishovala::{accept, AnyFabric, Fabric, Header, HeaderSet, OpenFlow, Version};
 use reference::file::write;
 use reference::random::{any, cases, Rng};
 
@@ -93,7 +93,48 @@ fn wrong_openflows() {
         ),
         (
             "OpenFlow 1.3",
-            "1:1: 'OpenFlow': a line is openflow, an edge, a link, an entry, a name or a switch",
+            "1:1: 'OpenFlow': a line is version, openflow, an edge, a link, an entry, a name or \
+             a switch",
+        ),
+    ] {
+        assert_eq!(pack(text).unwrap_err().to_string(), message, "{text}");
+    }
+}
+
+/// A version is chosen as an OpenFlow is, and in any order with it.
+#[test]
+fn a_version_is_chosen() {
+    let edge = "edge 1 group 7 admits any\n";
+    for (head, start) in [
+        ("", [11, 0, 1, 0x10]),
+        ("version 1\n", [11, 0, 1, 0x10]),
+        ("version 2\n", [19, 0, 2, 0x10]),
+        ("name 1 a\n version  2 # wide\n", [19, 0, 2, 0x10]),
+        ("version 2\nopenflow 1.3\n", [19, 0, 2, 0x18]),
+        ("openflow 1.3\nversion 2\n", [19, 0, 2, 0x18]),
+    ] {
+        let packed = pack(&format!("{head}{edge}")).unwrap();
+        assert_eq!(packed[..4], start, "{head}");
+    }
+}
+
+#[test]
+fn wrong_versions() {
+    let edge = "edge 1 group 7 admits any";
+    for (text, message) in [
+        ("version", "1:8: 1 or 2 is missing"),
+        ("version 3", "1:9: '3' instead of 1 or 2"),
+        ("version 2.0", "1:9: '2.0' instead of 1 or 2"),
+        ("version 2 2", "1:11: '2' is too much"),
+        ("version 2\nversion 2", "2:1: version stands here twice"),
+        ("version 1\nversion 2", "2:1: version stands here twice"),
+        (
+            &format!("{edge}\nversion 2"),
+            "2:1: version stands before every edge, link and entry",
+        ),
+        (
+            &format!("{edge}\nversion 1"),
+            "2:1: version stands before every edge, link and entry",
         ),
     ] {
         assert_eq!(pack(text).unwrap_err().to_string(), message, "{text}");
@@ -102,22 +143,47 @@ fn wrong_openflows() {
 
 #[test]
 fn sets_are_read_as_they_are_written() {
-    cases(8_100_000, 20_000, |rng| {
-        let set = random_set(rng);
+    fn check<const N: usize>(rng: &mut Rng) {
+        let set: HeaderSet<N> = random_set(rng);
         let text = set.to_string();
         assert_eq!(text.parse(), Ok(set), "{text}");
+    }
+    cases(8_100_000, 20_000, |rng| {
+        check::<4>(rng);
+        check::<8>(rng);
     });
 }
 
-/// Masks whole, of prefixes, and of any bits.
-fn random_set(rng: &mut Rng) -> HeaderSet {
+/// So do fabrics of version 2, with sets of all fields.
+#[test]
+fn fabrics_of_version_2_are_read_as_they_are_written() {
+    cases(8_150_000, 1000, |rng| {
+        let narrow = Fabric::read(&write(&any(rng))).unwrap();
+        let mut fabric: Fabric<8> = narrow.resized().unwrap();
+        fabric.entries.truncate(Version::V2.most_entries());
+        for edge in &mut fabric.edges {
+            edge.admitted = random_set(rng);
+        }
+        for entry in &mut fabric.entries {
+            (entry.matching, entry.rewrite) = (random_set(rng), random_set(rng));
+        }
+        let file = fabric.to_bytes().unwrap();
+        assert_eq!(AnyFabric::read(&file), Ok(AnyFabric::V2(fabric.clone())));
+        let shown = show(&fabric);
+        assert!(pack(&shown).as_deref() == Ok(&file[..]), "{shown}");
+    });
+}
+
+/// Masks whole, of prefixes, and of any bits; none of those that no field has.
+fn random_set<const N: usize>(rng: &mut Rng) -> HeaderSet<N> {
     let word = |rng: &mut Rng| match rng.below(4) {
         0 => 0,
         1 => u32::MAX,
         2 => u32::MAX << rng.below(32),
         _ => rng.draw() as u32 & rng.draw() as u32,
     };
-    let care = [0; 4].map(|_| word(rng));
+    let fields = HeaderSet::only(Header([0; N])).care;
+    let care = fields.map(|fields| word(rng) & fields);
     let value = care.map(|care| rng.draw() as u32 & care);
     HeaderSet { care, value }
 }
@@ -157,6 +223,100 @@ fn ways_to_write_a_set() {
     assert_eq!(set.care, [u32::MAX; 4]);
     assert_eq!(set.value, [0x01020304, 0x05060708, 0x00010002, 0x00030405]);
     assert_eq!(set.to_string(), words);
+}
+
+#[test]
+fn ways_to_write_a_set_of_version_2() {
+    for (one, other) in [
+        ("dl_src=02:00:00:00:00:01", "dl_src=0x020000000001"),
+        ("dl_dst=0A:bC:00:00:00:ff", "dl_dst=0a:bc:00:00:00:ff"),
+        (
+            "dl_dst=02:00:00:00:00:00/ff:ff:ff:00:00:00",
+            "dl_dst=0x020000000000/0xffffff000000",
+        ),
+        (
+            "dl_dst=01:00:00:00:00:00/01:00:00:00:00:00",
+            "dl_dst=0x10000000000/0x010000000000",
+        ),
+        ("any", "dl_src=00:00:00:00:00:00/00:00:00:00:00:00"),
+        ("dl_type=ip", "dl_type=0x0800"),
+        ("dl_type=arp", "dl_type=2054"),
+        ("dl_type=ipv6", "dl_type=0x86dd"),
+        ("dl_type=ip/0xff00", "dl_type=0x800/0xff00"),
+        ("dl_vlan_pcp=7", "dl_vlan_pcp=0x7/0xff"),
+    ] {
+        let sets = [one, other].map(|text| text.parse::<HeaderSet<8>>().unwrap());
+        assert_eq!(sets[0], sets[1], "{one}");
+    }
+    let words = "nw_src=1.2.3.4,nw_dst=5.6.7.8,tp_src=1,tp_dst=2,dl_vlan=3,nw_tos=4,nw_proto=5,\
+                 dl_src=01:02:03:04:05:06,dl_dst=a1:a2:a3:a4:a5:a6,dl_type=0x0806,dl_vlan_pcp=7";
+    let set: HeaderSet<8> = words.parse().unwrap();
+    assert_eq!(
+        set.value[4..],
+        [0x0102_0304, 0x0506_a1a2, 0xa3a4_a5a6, 0x0806_0700]
+    );
+    assert_eq!(set, HeaderSet::only(set.lowest()));
+    assert_eq!(set.to_string(), words);
+    let all_masked = HeaderSet {
+        care: set.care.map(|care| care & 0x5a5a_5a5a),
+        value: [0; 8],
+    };
+    assert_eq!(all_masked.to_string().len(), 287);
+    let masked =
+        "dl_src=02:00:00:00:00:00/ff:ff:ff:00:00:00,dl_type=0x0800/0xff00,dl_vlan_pcp=0x04/0x04";
+    assert_eq!(masked.parse::<HeaderSet<8>>().unwrap().to_string(), masked);
+}
+
+/// In version 1 Ethernet's fields are named, and not passed over.
+#[test]
+fn wrong_sets_of_either_version() {
+    for (text, message) in [
+        ("dl_src=2:0:0:0:0:1", "1:8: '2:0:0:0:0:1' is no Ethernet address, as 02:00:00:00:00:01"),
+        ("dl_src=02:00:00:00:00", "1:8: '02:00:00:00:00' is no Ethernet address, as 02:00:00:00:00:01"),
+        (
+            "dl_dst=02:00:00:00:00:01:02",
+            "1:8: '02:00:00:00:00:01:02' is no Ethernet address, as 02:00:00:00:00:01",
+        ),
+        ("dl_src=02:00:00:00:00:0g", "1:8: '02:00:00:00:00:0g' is no Ethernet address, as 02:00:00:00:00:01"),
+        ("dl_src=10.0.0.1", "1:8: '10.0.0.1' is no Ethernet address, as 02:00:00:00:00:01"),
+        (
+            "dl_src=02:00:00:00:00:00/24",
+            "1:26: '24' is no Ethernet address, as 02:00:00:00:00:01",
+        ),
+        (
+            "dl_src=02:00:00:00:00:01/ff:ff:ff:00:00:00",
+            "1:8: 02:00:00:00:00:01/ff:ff:ff:00:00:00 has bits outside its mask: \
+             02:00:00:00:00:00/ff:ff:ff:00:00:00?",
+        ),
+        (
+            "dl_src=0x1000000000000",
+            "1:8: '0x1000000000000' is too large for dl_src: at most 281474976710655",
+        ),
+        ("dl_type=tcp", "1:9: 'tcp' is no dl_type"),
+        ("dl_vlan_pcp=256", "1:13: '256' is too large for dl_vlan_pcp: at most 255"),
+        ("nw_dst=arp", "1:8: 'arp' is no address"),
+        (
+            "dl_tpye=ip",
+            "1:1: 'dl_tpye' is no field: these are nw_src, nw_dst, tp_src, tp_dst, dl_vlan, nw_tos, \
+             nw_proto, dl_src, dl_dst, dl_type, dl_vlan_pcp",
+        ),
+    ] {
+        let error = text.parse::<HeaderSet<8>>().unwrap_err();
+        assert_eq!(error.to_string(), message, "{text}");
+    }
+    for field in ["dl_src", "dl_dst", "dl_type", "dl_vlan_pcp"] {
+        let error = format!("tp_dst=80,{field}=0x0")
+            .parse::<HeaderSet>()
+            .unwrap_err();
+        let message = format!("{field} is no field of version 1: version 2 has it");
+        assert_eq!(error.to_string(), format!("1:11: {message}"));
+        let text = format!("edge 1 group 7 admits {field}=0x0\n");
+        assert_eq!(
+            pack(&text).unwrap_err().to_string(),
+            format!("1:23: {message}")
+        );
+        assert!(pack(&format!("version 2\n{text}")).is_ok());
+    }
 }
 
 #[test]
@@ -211,7 +371,8 @@ fn wrong_lines() {
     let wrong = [
         (
             "port 1",
-            "1:1: 'port': a line is openflow, an edge, a link, an entry, a name or a switch",
+            "1:1: 'port': a line is version, openflow, an edge, a link, an entry, a name or \
+             a switch",
         ),
         ("\n  edge", "2:7: a port is missing"),
         ("edge 1 grup 2 admits any", "1:8: 'grup' instead of 'group'"),
@@ -400,7 +561,10 @@ fn damaged_texts() {
 /// Texts of words that stand in fabrics, and of others, in any order.
 #[test]
 fn texts_at_random() {
-    const WORDS: [&str; 32] = [
+    const WORDS: [&str; 35] = [
+        "version",
+        "dl_type=arp",
+        "dl_src=02:00:00:00:00:00/ff:ff:ff:00:00:00",
         "openflow",
         "1.0",
         "1.3",
@@ -442,7 +606,10 @@ fn texts_at_random() {
         }
         match pack(&text) {
             Ok(file) => {
-                let shown = show(&Fabric::read(&file).unwrap());
+                let shown = match AnyFabric::read(&file).unwrap() {
+                    AnyFabric::V1(fabric) => show(&fabric),
+                    AnyFabric::V2(fabric) => show(&fabric),
+                };
                 assert_eq!(pack(&shown).as_deref(), Ok(&file[..]));
             }
             Err(wrong) => check_wrong(&text, &wrong),

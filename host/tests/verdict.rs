@@ -100,7 +100,7 @@ fn benchmark_fabrics() {
 }
 
 #[test]
-fn half_a_mebibyte_of_stack_is_enough() {
+fn the_least_stack_is_enough() {
     assert_eq!(checks::with_little_stack(VERDICT, 96), 24 * 256);
 }
 

@@ -65,7 +65,7 @@ fn bytes_at_random() {
         let _ = run(
             &file,
             rng.draw() as u32,
-            Header::default(),
+            Header::<4>::default(),
             rng.draw() as u32,
         );
     });

@@ -73,7 +73,7 @@ fn every_port_is_asked() {
 fn words_are_counted() {
     let links = |number| Fabric {
         links: vec![Link { from: 1, to: 2 }; number],
-        ..Fabric::default()
+        ..Fabric::<4>::default()
     };
     let most = links(65_533).to_bytes().unwrap();
     assert_eq!(&most[..4], [0xff, 0xff, 1, 0x10]);

@@ -5,7 +5,8 @@ use Prim.Native.Nat.{ℕ, suc, _+_, _*_, _/_, _%_, _≤_, _<_}
 use native.Mathlib.Numerals.{add-one}
 use native.Mathlib.Omega.{arith}
 use lib.ListN.{length, take, drop, set, getD, length-append, length-drop, take-append-drop}
-use lib.Seq.{length-take-le, take-at, drop-drop, sets-eq, drop-append-add, take-suc}
+use lib.Seq.{length-take-le, take-all, take-at, drop-drop, sets-eq, drop-append-add, take-suc}
+use Rattle.records.specs.Records.{half, Width}
 use Rattle.answer.specs.Answer.{bytesOf, writtenAt}
 
 pub bytes-append : (us vs : List ℕ) → bytesOf (us ++ vs) ≡ bytesOf us ++ bytesOf vs
@@ -83,3 +84,16 @@ written-three a b c area m n la lb room =
     ap (writtenAt (m + n) c) (subst (λ (k : ℕ). writtenAt k b (writtenAt 0 a area) ≡ writtenAt 0 (a ++ b) area) z (written-next 0 a b area (omega arith)))
     ∙ subst (λ (k : ℕ). writtenAt k c (writtenAt 0 (a ++ b) area) ≡ writtenAt 0 (a ++ b ++ c) area) y (written-next 0 (a ++ b) c area (omega arith))
     ∙ ap (λ (l : List ℕ). writtenAt 0 l area) (append-assoc a b c)
+
+-- the first w words of a header, its first four and then, if there are more, its last four
+module _ (at w : ℕ) (low high area : List ℕ) (d : Width w) (ll : length low ≡ half) (lh : length high ≡ half) where
+  pub written-low : w ≡ half → writtenAt at low area ≡ writtenAt at (take w (low ++ high)) area
+  written-low e = ap (λ (l : List ℕ). writtenAt at l area) (sym (take-at low high w (ll ∙ sym e)))
+
+  pub written-both : 4 * (at + w) ≤ length area → (w ≡ half → ⊥)
+      → writtenAt (at + half) high (writtenAt at low area) ≡ writtenAt at (take w (low ++ high)) area
+  written-both room n =
+      ap (λ (m : ℕ). writtenAt (at + m) high (writtenAt at low area)) (sym ll)
+      ∙ written-next at low high area (omega (arith, d .low))
+      ∙ ap (λ (l : List ℕ). writtenAt at l area)
+      (sym (take-all w (low ++ high) (let h : half < w = omega arith in omega (arith, length-append low high))))

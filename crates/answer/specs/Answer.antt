@@ -31,3 +31,7 @@ answered ws area = outcome (length ws * 256) (bytesOf ws ++ drop (4 * length ws)
 -- "entries in travelling order (16, unused ones 0)"
 unfoldable pub sixteen : List ℕ → List ℕ
 sixteen l = take 16 (l ++ replicate 16 0)
+
+-- the words of a verdict's or a run's answer: four, a header of n words, and an entry for each hop
+abbrev pub answerWords : ℕ → ℕ
+answerWords n = 4 + n + 16

@@ -12,7 +12,7 @@ use Rattle.records.specs.Records.{portOfEdge, fromOfLink}
 use Rattle.questions.proofs.Lists.{number-has}
 use Rattle.file.specs.Accepted.{HasEdge}
 use Rattle.forwarding.specs.Trace.{Event, find, stop, fromPort, atInPort}
-use Rattle.model.specs.Model.{AFabric, shapeIn, under, edgeAt, linkEnding, fabricOf, fabricIn}
+use Rattle.model.specs.Model.{AFabric, shapeIn, under, edgeAt, linkEnding, fabricOf, fabricIn, wideIn}
 use Rattle.index.specs.Index.{placeAt}
 use Rattle.entries.proofs.Entries.{shape-is}
 use Rattle.backtrace.specs.Cycle.{IsPlace, eventsAt}
@@ -51,7 +51,7 @@ module _ {f : List ℕ} (a : AFabric f) (x : ℕ) where
       go false e l = absurd (omega (arith, link-low))
 
   -- a part that came to stand there is a part at the in-port
-  pub place-events : (hops : ℕ) (path : List ℕ) (t : Set) → eventsAt f (placeAt f x) t hops path ≡ atInPort (fabricIn f) (stop (fabricIn f) hops) x path t
+  pub place-events : (hops : ℕ) (path : List ℕ) (t : Set) → eventsAt f (placeAt f x) t hops path ≡ atInPort (wideIn f) (stop (wideIn f) hops) x path t
   unfolding eventsAt placeAt atInPort fabricIn fabricOf
   place-events hops path t = go (ltb 0 edge) refl
     where
@@ -59,7 +59,7 @@ module _ {f : List ℕ} (a : AFabric f) (x : ℕ) where
       found p = find (record { port = p; path = path; set = t }) ∷ []
 
       on : ℕ → List Event
-      on y = fromPort (fabricIn f) (stop (fabricIn f) hops) y path t
+      on y = fromPort (wideIn f) (stop (wideIn f) hops) y path t
 
       go : (b : Bool) → ltb 0 edge ≡ b
           → cond (leb 4096 (placeIf b)) (found (portOfEdge f (placeIf b - 4096))) (on (placeIf b)) ≡ cond b (found x) (on (fabricIn f .linkFrom x))
@@ -73,10 +73,10 @@ module _ {f : List ℕ} (a : AFabric f) (x : ℕ) where
           (lt-leb 4096 (fabricIn f .linkFrom x) link-low)
 
 -- at a port that is no edge's place a stop follows
-pub port-events : (f : List ℕ) (y hops : ℕ) (path : List ℕ) (t : Set) → y < 4096 → (y ≡ 0 → ⊥) → eventsAt f y t hops path ≡ stop (fabricIn f) hops y t path
+pub port-events : (f : List ℕ) (y hops : ℕ) (path : List ℕ) (t : Set) → y < 4096 → (y ≡ 0 → ⊥) → eventsAt f y t hops path ≡ stop (wideIn f) hops y t path
 unfolding eventsAt
 port-events f y hops path t l nz = rw (lt-leb 4096 y l) (go y nz)
   where
-    go : (y : ℕ) → (y ≡ 0 → ⊥) → fromPort (fabricIn f) (stop (fabricIn f) hops) y path t ≡ stop (fabricIn f) hops y t path
+    go : (y : ℕ) → (y ≡ 0 → ⊥) → fromPort (wideIn f) (stop (wideIn f) hops) y path t ≡ stop (wideIn f) hops y t path
     go zero z = absurd (z refl)
     go (suc y) z = refl

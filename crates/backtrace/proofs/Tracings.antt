@@ -1,21 +1,32 @@
 -- What the trace has in hand stays in hand: after a unit, after a call, and with an entry put on the path. Assumes nothing.
 use mathlib.Core.Bool.{Bool}
 use mathlib.Core.List.{List}
-use mathlib.Core.Path.{_≡_, ap, _∙_}
+use mathlib.Core.Path.{_≡_, sym, ap, _∙_, subst}
 use Prim.Native.Nat.{ℕ, _-_, _<_}
 use native.Mathlib.Omega.{arith}
 use lib.ListN.{length, set}
+use Rattle.records.specs.Records.{matchAt, EntryLong}
+use Rattle.wide.specs.Forms.{storedAt}
 use Rattle.forwarding.specs.Trace.{Event}
-use Rattle.entries.specs.Entries.{EntriesFrom}
+use Rattle.model.specs.Model.{wideIn}
+use Rattle.entries.specs.Entries.{EntriesFrom, IsEntry}
+use Rattle.entries.proofs.Entries.{entry-long, match-is}
 use Rattle.events.specs.Play.{Played}
-use Rattle.events.specs.Asked.{budgetOf, floorOf, baseOf, worldOf, foundBy, UnitMade}
+use Rattle.events.specs.Asked.{budgetOf, floorOf, baseOf, wordsAsked, worldOf, foundBy, UnitMade}
 use Rattle.events.proofs.Budgets.{found-makes-none, play-within, unit-within}
+use Rattle.trials.proofs.Asks.{asked-entries}
 use Rattle.backtrace.specs.Cycle.{Tracing, Traced, Kept}
 use Rattle.backtrace.proofs.Paths.{path-kept, path-pushed}
 
 module _ {f ask index : List ℕ} {d : ℕ} {path counters area : List ℕ} (t : Tracing f ask index d path counters area) where
-  pub entries-from : {base : ℕ} → base ≡ baseOf ask → EntriesFrom f base
-  entries-from h = record { fabric = t .asked .fabric; base-is = h ∙ t .asked .base-is }
+  pub entries-from : {base w : ℕ} → base ≡ baseOf ask → w ≡ wordsAsked ask → EntriesFrom f base w
+  entries-from = asked-entries (t .asked)
+
+  pub entry-as-long : {w e : ℕ} {x : List ℕ} → w ≡ wordsAsked ask → IsEntry f e x → EntryLong w x
+  entry-as-long {x = x} h i = subst (λ (w : ℕ). EntryLong w x) (sym (h ∙ t .asked .width-is)) (entry-long (t .asked .fabric) i)
+
+  pub match-there : {w e : ℕ} {x : List ℕ} → w ≡ wordsAsked ask → IsEntry f e x → storedAt w x matchAt ≡ wideIn f .entry e .matches
+  match-there {x = x} h i = ap (λ (w : ℕ). storedAt w x matchAt) (h ∙ t .asked .width-is) ∙ sym (match-is (t .asked .fabric) i)
 
   pub after-unit : {made : Bool} {counters′ : List ℕ} → UnitMade ask counters made counters′ → Tracing f ask index d path counters′ area
   after-unit u = record {

@@ -11,7 +11,7 @@ use Rattle.headers.specs.Sets.{Set}
 use Rattle.headers.specs.Carving.{parts, carve}
 use Rattle.forwarding.specs.Fabric.{Fabric, inPortOf, priorityOf}
 use Rattle.forwarding.specs.Trace.{Find, Event, unit, carved}
-use Rattle.model.specs.Model.{fabricIn}
+use Rattle.model.specs.Model.{fabricIn, wideIn}
 use Rattle.index.specs.Chains.{noEntry}
 use Rattle.index.proofs.Chained.{Next}
 use Rattle.entries.specs.Entries.{rankedFrom}
@@ -122,25 +122,25 @@ module _ (f : Fabric) (budget : ℕ) (found : Find → World → Played) (next :
 
 module _ {f ask index : List ℕ} {d : ℕ} {path counters₀ area : List ℕ} (t : Tracing f ask index d path counters₀ area)
     (x q : ℕ) (p : Set) {j i : ℕ} (along : Next (inPortOf (fabricIn f)) (fabricIn f .entries) x j i) {counters : List ℕ} {r : ℕ}
-    (n : NextMet (trialsFrom (fabricIn f) (budgetOf ask) q i p (getD counters₀ 0 0)) counters₀ r counters) where
+    (n : NextMet (trialsFrom (wideIn f) (budgetOf ask) q i p (getD counters₀ 0 0)) counters₀ r counters) where
   few : fabricIn f .entries ≤ noEntry
   few = entries-few (t .asked .fabric)
 
   -- the trials of the entries from j on
   abbrev these : Tried
-  these = tried (meets (fabricIn f) p) (budgetOf ask) (rankedFrom (fabricIn f) x q j) (getD counters₀ 0 0)
+  these = tried (meets (wideIn f) p) (budgetOf ask) (rankedFrom (wideIn f) x q j) (getD counters₀ 0 0)
 
   of-these : NextMet these counters₀ r counters
-  of-these = rw (ranked-next (fabricIn f) q along) n
+  of-these = rw (ranked-next (wideIn f) q along) n
 
   pub part-ended : Ended f ask x p counters r
   part-ended = record {
-    entry-met = λ l. entry-found (fabricIn f) p (budgetOf ask) x q few j _ of-these l .is;
-    budget-used = budget-found-used (fabricIn f) p (budgetOf ask) x q few j _ of-these;
+    entry-met = λ l. entry-found (wideIn f) p (budgetOf ask) x q few j _ of-these l .is;
+    budget-used = budget-found-used (wideIn f) p (budgetOf ask) x q few j _ of-these;
   }
 
   pub part-later : j ≤ noEntry → j ≤ r
-  part-later = found-later (fabricIn f) p (budgetOf ask) x q few j _ of-these
+  part-later = found-later (wideIn f) p (budgetOf ask) x q few j _ of-these
 
   pub after-trials : Tracing f ask index d path counters area
   after-trials = record {
@@ -150,13 +150,13 @@ module _ {f ask index : List ℕ} {d : ℕ} {path counters₀ area : List ℕ} (
     on-path = t .on-path;
     room = record {
       counters-long = n .counters-long;
-      made-within = units-within (fabricIn f) p (budgetOf ask) x q few j _ of-these (t .room .made-within);
+      made-within = units-within (wideIn f) p (budgetOf ask) x q few j _ of-these (t .room .made-within);
       verdict-room = t .room .verdict-room;
     };
   }
 
   left-is : (hops : ℕ) (way : List ℕ) (o : Ending)
-      → eventsAfter f x q o hops way p ≡ leftBy (fabricIn f) (budgetOf ask) (foundBy f ask) (survivorEvents f x hops way) x q p o
+      → eventsAfter f x q o hops way p ≡ leftBy (wideIn f) (budgetOf ask) (foundBy f ask) (survivorEvents f x hops way) x q p o
   unfolding eventsFrom eventsCut
   left-is hops way (met b) = refl
   left-is hops way past = refl
@@ -171,11 +171,11 @@ module _ {f ask index : List ℕ} {d : ℕ} {path counters₀ area : List ℕ} (
     played =
         w .played
         ∙ ap (λ (o : Ending). run f ask (eventsAfter f x q o hops way p) counters area)
-        (ending-found (fabricIn f) p (budgetOf ask) x q few j _ of-these)
+        (ending-found (wideIn f) p (budgetOf ask) x q few j _ of-these)
         ∙ ap (λ (es : List Event). run f ask es counters area) (left-is hops way (these .ending))
         ∙ ap (play (budgetOf ask) (foundBy f ask)
-        (leftBy (fabricIn f) (budgetOf ask) (foundBy f ask) (survivorEvents f x hops way) x q p (these .ending))) world-is
-        ∙ trials-played (fabricIn f) (budgetOf ask) (foundBy f ask) (survivorEvents f x hops way) x q p j (worldOf counters₀ area);
+        (leftBy (wideIn f) (budgetOf ask) (foundBy f ask) (survivorEvents f x hops way) x q p (these .ending))) world-is
+        ∙ trials-played (wideIn f) (budgetOf ask) (foundBy f ask) (survivorEvents f x hops way) x q p j (worldOf counters₀ area);
     counters-long = w .counters-long;
   }
     where

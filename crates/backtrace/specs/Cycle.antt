@@ -10,7 +10,7 @@ use Rattle.headers.specs.Carving.{carve}
 use Rattle.records.specs.Records.{portOfEdge}
 use Rattle.file.specs.Accepted.{HasEdge}
 use Rattle.forwarding.specs.Trace.{Event, unit, find, stop, fromPort, carved, atInPort}
-use Rattle.model.specs.Model.{fabricIn}
+use Rattle.model.specs.Model.{wideIn}
 use Rattle.index.specs.Chains.{noEntry}
 use Rattle.index.specs.Index.{Index}
 use Rattle.entries.specs.Entries.{rankedFrom}
@@ -51,21 +51,21 @@ unfoldable pub eventsAt : List ℕ → ℕ → Set → ℕ → List ℕ → List
 eventsAt f place t hops path =
     cond (leb 4096 place)
     (find (record { port = portOfEdge f (place - 4096); path = path; set = t }) ∷ [])
-    (fromPort (fabricIn f) (stop (fabricIn f) hops) place path t)
+    (fromPort (wideIn f) (stop (wideIn f) hops) place path t)
 
 -- ---- parts at an in-port x
 
 -- the events of a part that no entry took there, with so many hops left
 abbrev pub survivorEvents : List ℕ → ℕ → ℕ → List ℕ → Set → List Event
-survivorEvents f x hops path = atInPort (fabricIn f) (stop (fabricIn f) hops) x path
+survivorEvents f x hops path = atInPort (wideIn f) (stop (wideIn f) hops) x path
 
 -- the events of a part that is yet to be tried against the entries from j on of priority q or higher
 unfoldable pub eventsFrom : List ℕ → ℕ → ℕ → ℕ → ℕ → List ℕ → Set → List Event
-eventsFrom f x q j hops path p = carved (fabricIn f) (survivorEvents f x hops path) (rankedFrom (fabricIn f) x q j) p
+eventsFrom f x q j hops path p = carved (wideIn f) (survivorEvents f x hops path) (rankedFrom (wideIn f) x q j) p
 
 -- the events of the parts that entry b leaves of a part
 unfoldable pub eventsCut : List ℕ → ℕ → ℕ → ℕ → ℕ → List ℕ → Set → List Event
-eventsCut f x q b hops path p = flatMap (eventsFrom f x q (suc b) hops path) (carve (fabricIn f .words) p (fabricIn f .entry b .matches))
+eventsCut f x q b hops path p = flatMap (eventsFrom f x q (suc b) hops path) (carve (wideIn f .words) p (wideIn f .entry b .matches))
 
 -- the events that are left of a part, by how its trials ended: where the budget is used, the unit that it doesn't have
 abbrev pub eventsAfter : List ℕ → ℕ → ℕ → Ending → ℕ → List ℕ → Set → List Event
@@ -75,5 +75,5 @@ eventsAfter f x q used hops path p = unit ∷ []
 
 -- r is the number of the part's trials' ending: a lower one than 'none' is an entry that it meets, with a higher one the budget is used
 pub record Ended (f ask : List ℕ) (x : ℕ) (p : Set) (counters : List ℕ) (r : ℕ) : Type 0 where
-  pub entry-met : r < noEntry → Met (fabricIn f) x p r
+  pub entry-met : r < noEntry → Met (wideIn f) x p r
   pub budget-used : noEntry < r → budgetOf ask ≤ getD counters 0 0

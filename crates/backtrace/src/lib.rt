@@ -3,19 +3,25 @@
 // and where a part goes next in `trials`.
 // They are handed an index of the file, so that they read no entry but those of the chain in hand, and references to the caller's
 // path and counters, so that a level of the descent copies no state.
-use headers::HeaderSet;
+use events::BASE;
+use events::FLOOR;
+use events::WIDTH;
 use index::CELLS;
 use index::FIRST_EDGE;
 use index::NO_ENTRY;
+use records::MATCH;
 use records::Shape;
+use wide::WideSet;
 ghost use mathlib.Core.Bool.{true};
 ghost use mathlib.Core.Path.{_≡_};
-ghost use Prim.Native.Nat.{_-_, _<_, _≤_};
+ghost use Prim.Native.Nat.{_-_, _*_, _<_, _≤_};
 ghost use lib.ListN.{length, set, drop};
-ghost use Rattle.headers.specs.Forms.{setOf};
+ghost use Rattle.answer.specs.Answer.{answerWords};
+ghost use Rattle.records.specs.Records.{widthIn};
+ghost use Rattle.wide.specs.Forms.{wideOf};
 ghost use Rattle.questions.specs.Tables.{EdgeTable};
 ghost use Rattle.file.specs.Accepted.{Accepted};
-ghost use Rattle.model.specs.Model.{fabricIn, entriesAt};
+ghost use Rattle.model.specs.Model.{fabricIn, wideIn, entriesAt};
 ghost use Rattle.index.specs.Index.{Index};
 ghost use Rattle.events.specs.Asked.{floorOf};
 ghost use Rattle.trials.specs.Trials.{Met, endingAt};
@@ -28,11 +34,6 @@ pub struct Passed {
     pub made: u64,
     pub words: u64,
 }
-
-// Where numbers stand in `ask`.
-const FLOOR: usize = 2;
-
-pub const BASE: usize = 5;
 
 // ---- the path
 
@@ -51,18 +52,20 @@ fn push(path: &mut [u32; 16], k: usize, e: usize)
 // An entry that neither copies nor swaps addresses goes by itself, which the compiler makes vector code of.
 fn stop(
     file: &[u8],
-    ask: &[u32; 6],
+    ask: &[u32; 7],
     index: &[u16; CELLS],
     area: &mut [u8],
     place: usize,
-    t: HeaderSet,
+    t: WideSet,
     d: usize,
     path: &mut [u32; 16],
     counters: &mut [u64; 2],
 ) -> u32
     requires { ⌜ Tracing (now file) (now ask) (now index) d (now path) (now counters) (now area) ⌝ }
     requires { ⌜ IsPlace (now file) place ⌝ }
-    ensures { λ r. ⌜ Traced (now (file .entry)) (now (ask .entry)) (eventsAt (now (file .entry)) place (setOf t) (d - floorOf (now (ask .entry))) (drop d (now (path .entry)))) (now (counters .entry)) (now (area .entry)) r (now (counters .exit)) (now (area .exit)) ⌝ }
+    ensures { λ r. ⌜ Traced (now (file .entry)) (now (ask .entry))
+        (eventsAt (now (file .entry)) place (wideOf t) (d - floorOf (now (ask .entry))) (drop d (now (path .entry))))
+        (now (counters .entry)) (now (area .entry)) r (now (counters .exit)) (now (area .exit)) ⌝ }
     ensures { λ _. ⌜ Kept d (now (path .entry)) (now (path .exit)) ⌝ }
 {
     if FIRST_EDGE <= place {
@@ -75,25 +78,26 @@ fn stop(
         return 0;
     }
     let base = events::asked(ask, BASE);
+    let w = events::asked(ask, WIDTH);
     let mut e = index::first_out(index, place);
     while e < NO_ENTRY {
         if !events::unit(ask, counters) {
             return 1;
         }
-        let x = entries::entry_at(file, base, e);
-        let u = entries::unwritten(x, t);
+        let x = entries::entry_at(file, base, w, e);
+        let u = entries::unwritten(x, w, t);
         let next = index::next_out(index, e);
         if u.some {
             let s = u.set;
-            let port = records::in_port(x) as usize;
-            let least = model::least_above(records::priority(x));
-            let first = index::first_in(index, port);
-            push(path, d - 1, e);
             if entries::keeps(x) {
-                let m = entries::met(x, s);
+                let m = entries::met(x, w, s);
                 if m.some {
                     let p = m.set;
-                    let b = trials::next_met(file, ask, base, index, least, first, p, counters);
+                    let port = records::in_port(x) as usize;
+                    let least = model::least_above(records::priority(x));
+                    let first = index::first_in(index, port);
+                    push(path, d - 1, e);
+                    let b = trials::next_met(file, ask, index, least, first, p, counters);
                     let r = descend(
                         file,
                         ask,
@@ -112,10 +116,14 @@ fn stop(
                     }
                 }
             } else {
-                let m = entries::met_before(x, s);
+                let m = entries::met_before(x, w, s);
                 if m.some {
                     let p = m.set;
-                    let b = trials::next_met(file, ask, base, index, least, first, p, counters);
+                    let port = records::in_port(x) as usize;
+                    let least = model::least_above(records::priority(x));
+                    let first = index::first_in(index, port);
+                    push(path, d - 1, e);
+                    let b = trials::next_met(file, ask, index, least, first, p, counters);
                     let r = descend(
                         file,
                         ask,
@@ -144,22 +152,22 @@ fn stop(
 // is met has at least this priority. The path from place d on begins with the entry that p is taken back by.
 pub fn descend(
     file: &[u8],
-    ask: &[u32; 6],
+    ask: &[u32; 7],
     index: &[u16; CELLS],
     area: &mut [u8],
     port: usize,
     least: u32,
     b: usize,
-    p: HeaderSet,
+    p: WideSet,
     d: usize,
     path: &mut [u32; 16],
     counters: &mut [u64; 2],
 ) -> u32
     requires { ⌜ Tracing (now file) (now ask) (now index) d (now path) (now counters) (now area) ⌝ }
     requires { ⌜ port < 4096 ⌝ }
-    requires { ⌜ Ended (now file) (now ask) port (setOf p) (now counters) b ⌝ }
+    requires { ⌜ Ended (now file) (now ask) port (wideOf p) (now counters) b ⌝ }
     ensures { λ r. ⌜ Traced (now (file .entry)) (now (ask .entry))
-        (eventsAfter (now (file .entry)) port least (endingAt b) (d - floorOf (now (ask .entry))) (drop d (now (path .entry))) (setOf p))
+        (eventsAfter (now (file .entry)) port least (endingAt b) (d - floorOf (now (ask .entry))) (drop d (now (path .entry))) (wideOf p))
         (now (counters .entry)) (now (area .entry)) r (now (counters .exit)) (now (area .exit)) ⌝ }
     ensures { λ _. ⌜ Kept d (now (path .entry)) (now (path .exit)) ⌝ }
 {
@@ -176,36 +184,34 @@ pub fn descend(
 // "each part is then tried against the next beater": the parts that entry b, which p meets, leaves of it.
 fn carve(
     file: &[u8],
-    ask: &[u32; 6],
+    ask: &[u32; 7],
     index: &[u16; CELLS],
     area: &mut [u8],
     port: usize,
     least: u32,
     b: usize,
-    mut p: HeaderSet,
+    p: WideSet,
     d: usize,
     path: &mut [u32; 16],
     counters: &mut [u64; 2],
 ) -> u32
     requires { ⌜ Tracing (now file) (now ask) (now index) d (now path) (now counters) (now area) ⌝ }
     requires { ⌜ port < 4096 ⌝ }
-    requires { ⌜ Met (fabricIn (now file)) port (setOf p) b ⌝ }
+    requires { ⌜ Met (wideIn (now file)) port (wideOf p) b ⌝ }
     ensures { λ r. ⌜ Traced (now (file .entry)) (now (ask .entry))
-        (eventsCut (now (file .entry)) port least b (d - floorOf (now (ask .entry))) (drop d (now (path .entry))) (setOf p))
+        (eventsCut (now (file .entry)) port least b (d - floorOf (now (ask .entry))) (drop d (now (path .entry))) (wideOf p))
         (now (counters .entry)) (now (area .entry)) r (now (counters .exit)) (now (area .exit)) ⌝ }
     ensures { λ _. ⌜ Kept d (now (path .entry)) (now (path .exit)) ⌝ }
 {
-    let base = events::asked(ask, BASE);
-    let m = entries::match_at(file, base, b);
+    let w = events::asked(ask, WIDTH);
+    let x = entries::entry_at(file, events::asked(ask, BASE), w, b);
     let next = index::next_in(index, b);
-    let mut free = p.free(m);
-    while !headers::none_set(free) {
-        let bit = headers::first_bit(free);
-        let part = p.unlike(bit, m);
-        let later = headers::outside(bit, free);
-        let k = trials::next_met(file, ask, base, index, least, next, part, counters);
-        // the usual case: with no bit left this is the last part, and nothing is read after its descent
-        if headers::none_set(later) {
+    let mut cut = carving::first_cut(x, MATCH, w, p);
+    while !carving::is_done(cut) {
+        let part = carving::part(x, MATCH, w, cut);
+        // the usual case: this is the last part, and nothing is read after its descent
+        if carving::is_last(x, MATCH, w, cut) {
+            let k = trials::next_met(file, ask, index, least, next, part, counters);
             return descend(
                 file,
                 ask,
@@ -220,6 +226,8 @@ fn carve(
                 counters,
             );
         }
+        cut = carving::next_cut(x, MATCH, w, cut);
+        let k = trials::next_met(file, ask, index, least, next, part, counters);
         let r = descend(
             file,
             ask,
@@ -236,8 +244,6 @@ fn carve(
         if r != 0 {
             return r;
         }
-        p = p.like(bit, m);
-        free = later;
     }
     0
 }
@@ -260,7 +266,7 @@ pub fn entries_at(file: &[u8], shape: Shape) -> u32
     requires { ⌜ Accepted (now file) shape ⌝ }
     ensures { λ r. ⌜ r ≡ entriesAt (now (file .entry)) ⌝ }
 {
-    (4 * records::place(shape.edges, shape.links, 0)) as u32
+    (4 * records::place(shape.words, shape.edges, shape.links, 0)) as u32
 }
 
 // One pass: the finds are listed or judged, as the mode says.
@@ -274,15 +280,16 @@ pub fn pass(
     target: u32,
     limit: u32,
     budget: u32,
-    asked: HeaderSet,
+    asked: WideSet,
 ) -> Passed
     requires { ⌜ Accepted (now file) shape ⌝ }
     requires { ⌜ EdgeTable (now file) (shape .edges) (now «edge_of») ⌝ }
     requires { ⌜ Index (now file) (now index) ⌝ }
     requires { ⌜ fabricIn (now file) .isEdge target ≡ true ⌝ }
     requires { ⌜ (1 ≤ limit) × (limit ≤ 16) ⌝ }
-    requires { ⌜ (mode ≡ 3 → 96 ≤ length (now area)) ⌝ }
-    ensures { λ r. ⌜ playedThen r (now (area .exit)) ≡ passOf (now (file .entry)) mode target limit budget (setOf asked) (now (area .entry)) ⌝ }
+    requires { ⌜ (mode ≡ 3 → 4 * answerWords (widthIn (now file)) ≤ length (now area)) ⌝ }
+    ensures { λ r. ⌜ playedThen r (now (area .exit))
+        ≡ passOf (now (file .entry)) mode target limit budget (wideOf asked) (now (area .entry)) ⌝ }
 {
     let ask = [
         budget,
@@ -291,6 +298,7 @@ pub fn pass(
         target,
         group_at(file, shape, edge_of, target),
         entries_at(file, shape),
+        shape.words as u32,
     ];
     let mut path = [0u32; 16];
     let mut counters = [0u64; 2];

@@ -10,7 +10,7 @@ use borrow.Author.Tests.{ne-eqb, leb-true}
 use Rattle.headers.specs.Sets.{Set}
 use Rattle.headers.proofs.Booleans.{and-fst, and-snd}
 use Rattle.answer.specs.Answer.{Outcome, outcome, refused, answered, writtenAt, bytesOf}
-use Rattle.questions.specs.Questions.{pick, Question, firstNo}
+use Rattle.questions.specs.Questions.{pick, clean, Question, firstNo}
 use Rattle.queries.specs.Queries.{limitRight, traceQuestions}
 use Rattle.calls.specs.Questions.{orRefused}
 
@@ -37,14 +37,15 @@ pub limit-range : (limit : ℕ) → limitRight limit ≡ true → (1 ≤ limit) 
 limit-range limit e =
     (leb-true 1 limit (and-fst (leb 1 limit) (leb limit 16) e), leb-true limit 16 (and-snd (leb 1 limit) (leb limit 16) e))
 
-module _ (right : Bool) (limit : ℕ) (asked : Set) where
-  pub trace-numbered : Numbered (traceQuestions right limit asked)
+module _ (n : ℕ) (right : Bool) (limit : ℕ) (asked : Set) where
+  pub trace-numbered : Numbered (traceQuestions n right limit asked)
   trace-numbered = (omega arith, (omega arith, (omega arith, tt)))
 
-  pub trace-yeses : firstNo (traceQuestions right limit asked) ≡ 0 → (right ≡ true) × ((1 ≤ limit) × (limit ≤ 16))
+  pub trace-yeses : firstNo (traceQuestions n right limit asked) ≡ 0
+      → (right ≡ true) × ((1 ≤ limit) × (limit ≤ 16)) × (clean n asked ≡ true)
   trace-yeses e =
-      let y = all-yes (traceQuestions right limit asked) trace-numbered e in
-      (y .0, limit-range limit (y .1 .0))
+      let y = all-yes (traceQuestions n right limit asked) trace-numbered e in
+      (y .0, limit-range limit (y .1 .0), y .1 .1 .0)
 
 -- ---- what is answered
 

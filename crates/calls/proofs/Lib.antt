@@ -1,5 +1,6 @@
 pub mod Asking
 mod MoreAsked
 mod Judging
+mod OwnWidth
 mod Listing
 mod Copying

@@ -1,4 +1,4 @@
--- The list: its passes, which have at most 3,225 words for each unit made and 25 for each port, and what is answered by them.
+-- The list: its passes, which have at most 8,481 words for each unit made and 33 for each port, and what is answered by them.
 use mathlib.Core.Bool.{Bool, true, false, cond}
 use mathlib.Core.List.{List, [], _∷_, _++_, map, flatMap}
 use mathlib.Core.Option.{Option, some, none, bind, Option·elim}
@@ -9,20 +9,26 @@ use borrow.Author.Tests.{leb-true, le-leb, lt-leb}
 use lib.Dec.{eqb, leb}
 use lib.ListN.{length, length-append, length-map}
 use Rattle.headers.specs.Bits.{bitAt, positions, keepIf, those, setBits}
-use Rattle.headers.specs.Sets.{Set, overlaps, joined, intersection}
+use Rattle.headers.specs.Sets.{Set, WellFormed, overlaps, joined, intersection}
 use Rattle.headers.specs.Carving.{free, like, partsAt, parts, carve, Each}
 use Rattle.headers.proofs.Positions.{words-long}
 use Rattle.answer.specs.Answer.{Outcome, outcome, answered, writtenAt}
 use Rattle.questions.specs.Questions.{pick, Question, _asks_, firstNo}
 use Rattle.forwarding.specs.Fabric.{Fabric, inPortOf, outPortOf, entriesWhere, undoes}
 use Rattle.forwarding.specs.BackTrace.{back, beaters}
-use Rattle.forwarding.specs.Trace.{Event, unit, find, carved, fromPort, atInPort, takenUp, stop}
+use Rattle.forwarding.specs.Trace.{Find, Event, unit, find, carved, fromPort, atInPort, takenUp, stop}
 use Rattle.forwarding.specs.Trace.{isInPort, inPorts, entriesIn, lostAt, lostTrace, listTrace, units, finds}
 use Rattle.forwarding.proofs.Budget.{ends-within}
-use Rattle.model.specs.Model.{fabricOf, fabricIn}
+use Rattle.records.specs.declared.Shape.{Shape}
+use Rattle.records.proofs.Widths.{width-is}
+use Rattle.file.specs.Accepted.{Accepted}
+use Rattle.model.specs.Model.{fabricIn}
+use Rattle.model.proofs.EntryRead.{words-are}
 use Rattle.model.proofs.Shapes.{ports-are}
+use Rattle.model.proofs.Soundness.{fabric-sound}
 use Rattle.events.specs.Play.{Played, findWords, listWords}
-use Rattle.events.proofs.ListPlayed.{wordsOf, ListedAll, listed-all, listed-stops}
+use Rattle.events.proofs.ListPlayed.{findsIn, wordsOf, ListedAll, listed-all, listed-stops}
+use Rattle.events.proofs.Widened.{finds-own}
 use Rattle.backtrace.specs.Pass.{begin, playedThen}
 use Rattle.backtrace.specs.declared.Passed.{Passed}
 use Rattle.queries.specs.Queries.{listTarget, traceQuestions}
@@ -77,9 +83,13 @@ carve-sized n p b s = go (overlaps n p b)
     go true = parts-sized n p b (setBits n (free n p b))
     go false = (s, tt)
 
--- ---- so a trace has few words for each unit: 25 for each of at most 129 parts
+-- ---- so a trace has few words for each unit: 33 for each of at most 257 parts
 
-words-append : (a b : List Event) → wordsOf (a ++ b) ≡ wordsOf a + wordsOf b
+-- the words of the finds among events
+abbrev findWordsOf : List Event → ℕ
+findWordsOf es = wordsOf (finds es)
+
+words-append : (a b : List Event) → findWordsOf (a ++ b) ≡ findWordsOf a + findWordsOf b
 unfolding finds listWords
 words-append [] b = omega arith
 words-append (unit ∷ a) b = words-append a b
@@ -94,9 +104,9 @@ units-append (find d ∷ a) b = units-append a b
 
 -- events with k words more than their units allow
 abbrev Few : ℕ → List Event → Type 0
-Few k es = wordsOf es ≤ k + 3225 * units es
+Few k es = findWordsOf es ≤ k + 8481 * units es
 
-few-parts : (n : ℕ) (g : Set → List Event) → ((s : Set) → Sized n s → Few 25 (g s)) → (l : List Set) → Each (Sized n) l → Few (25 * length l) (flatMap g l)
+few-parts : (n : ℕ) (g : Set → List Event) → ((s : Set) → Sized n s → Few 33 (g s)) → (l : List Set) → Each (Sized n) l → Few (33 * length l) (flatMap g l)
 unfolding flatMap Each finds listWords units
 few-parts n g few [] e = omega arith
 few-parts n g few (s ∷ l) e =
@@ -107,26 +117,26 @@ unfolding flatMap finds listWords units
 few-entries g few [] = omega arith
 few-entries g few (e ∷ l) = omega (arith, few e, few-entries g few l, words-append (g e) (flatMap g l), units-append (g e) (flatMap g l))
 
-module _ (F : Fabric) (four : F .words ≡ 4) where
-  few-carved : (next : Set → List Event) → ((s : Set) → Sized (F .words) s → Few 25 (next s)) → (bs : List ℕ) (p : Set) → Sized (F .words) p → Few 25 (carved F next bs p)
+module _ (F : Fabric) (eight : F .words ≤ 8) where
+  few-carved : (next : Set → List Event) → ((s : Set) → Sized (F .words) s → Few 33 (next s)) → (bs : List ℕ) (p : Set) → Sized (F .words) p → Few 33 (carved F next bs p)
   unfolding carved finds units
   few-carved next few [] p s = few p s
   few-carved next few (b ∷ bs) p s =
       let left = carve (F .words) p (F .entry b .matches) in
       omega (
         arith,
-        four,
+        eight,
         few-parts (F .words) (carved F next bs) (few-carved next few bs) left (carve-sized (F .words) p (F .entry b .matches) s),
         carve-few (F .words) p (F .entry b .matches),
       )
 
-  few-found : (x : ℕ) (path : List ℕ) (p : Set) → length path ≤ 16 → Sized (F .words) p → Few 25 (find (record { port = x; path = path; set = p }) ∷ [])
+  few-found : (x : ℕ) (path : List ℕ) (p : Set) → length path ≤ 16 → Sized (F .words) p → Few 33 (find (record { port = x; path = path; set = p }) ∷ [])
   unfolding finds listWords findWords units
   few-found x path p short s =
       let entries : List ℕ = map (λ (e : ℕ). 7 * 2 ^ 28 + e) path in
       omega (
         arith,
-        four,
+        eight,
         s .0,
         s .1,
         length-map path (λ (e : ℕ). 7 * 2 ^ 28 + e),
@@ -136,11 +146,11 @@ module _ (F : Fabric) (four : F .words ≡ 4) where
       )
 
   few-at : (next : ℕ → Set → List ℕ → List Event) (x : ℕ) (path : List ℕ) → length path ≤ 16 → ((o : ℕ) (t : Set) → Few 0 (next o t path))
-      → (p : Set) → Sized (F .words) p → Few 25 (atInPort F next x path p)
+      → (p : Set) → Sized (F .words) p → Few 33 (atInPort F next x path p)
   unfolding atInPort finds listWords units
   few-at next x path short few p s = go (F .isEdge x) (F .linkFrom x)
     where
-      go : (b : Bool) (y : ℕ) → Few 25 (cond b (find (record { port = x; path = path; set = p }) ∷ []) (fromPort F next y path p))
+      go : (b : Bool) (y : ℕ) → Few 33 (cond b (find (record { port = x; path = path; set = p }) ∷ []) (fromPort F next y path p))
       go true y = few-found x path p short s
       go false zero = omega arith
       go false (suc y) = omega (arith, few (suc y) p)
@@ -174,12 +184,12 @@ module _ (F : Fabric) (four : F .words ≡ 4) where
       (entriesWhere F (λ e. eqb (outPortOf F e) o))
 
   -- what is lost at a port may be found without a unit
-  few-ports : (g : ℕ → List Event) → ((x : ℕ) → Few 25 (g x)) → (l : List ℕ) → Few (25 * length l) (flatMap g l)
+  few-ports : (g : ℕ → List Event) → ((x : ℕ) → Few 33 (g x)) → (l : List ℕ) → Few (33 * length l) (flatMap g l)
   unfolding flatMap finds listWords units
   few-ports g few [] = omega arith
   few-ports g few (x ∷ l) = omega (arith, few x, few-ports g few l, words-append (g x) (flatMap g l), units-append (g x) (flatMap g l))
 
-  few-lost : (k : ℕ) (t : Set) → k ≤ 16 → Sized (F .words) t → Few (25 * F .ports) (lostTrace F k t)
+  few-lost : (k : ℕ) (t : Set) → k ≤ 16 → Sized (F .words) t → Few (33 * F .ports) (lostTrace F k t)
   unfolding lostTrace lostAt finds listWords units
   few-lost zero t short s = omega arith
   few-lost (suc k) t short s =
@@ -193,13 +203,9 @@ module _ (F : Fabric) (four : F .words ≡ 4) where
         positions-long (F .ports) 0,
       )
 
-  few-listed : (limit target : ℕ) (t : Set) → limit ≤ 16 → Sized (F .words) t → Few (25 * F .ports) (listTrace F limit target t)
+  few-listed : (limit target : ℕ) (t : Set) → limit ≤ 16 → Sized (F .words) t → Few (33 * F .ports) (listTrace F limit target t)
   few-listed limit zero t short s = few-lost limit t short s
   few-listed limit (suc target) t short s = omega (arith, few-stop limit (suc target) t [] (omega arith))
-
-four-words : (f : List ℕ) → fabricIn f .words ≡ 4
-unfolding fabricIn fabricOf
-four-words f = refl
 
 -- ---- the passes
 
@@ -207,28 +213,41 @@ four-words f = refl
 abbrev pub withinBudget : List ℕ → Query → Bool
 withinBudget f q = leb (units (listAsked (fabricIn f) q)) (q .budget)
 
-module _ (f : List ℕ) (q : Query) (short : q .limit ≤ 16) (small : q .budget < 2 ^ 32) (sized : Sized 4 (q .asked)) where
+module _ (f : List ℕ) (s : Shape) (ok : Accepted f s) (q : Query) (short : q .limit ≤ 16) (small : q .budget < 2 ^ 32)
+    (formed : WellFormed (fabricIn f .words) (q .asked)) where
+  -- the words of a header
+  abbrev n : ℕ
+  n = fabricIn f .words
+
   abbrev es : List Event
   es = listAsked (fabricIn f) q
 
-  pub few-words : withinBudget f q ≡ true → wordsOf es < 2 ^ 45
+  at-most-eight : n ≤ 8
+  at-most-eight = omega (arith, words-are f s ok, width-is f .high)
+
+  pub few-words : withinBudget f q ≡ true → wordsOf (finds es) < 2 ^ 46
   few-words within =
       omega (
         arith,
         leb-true (units es) (q .budget) within,
-        few-listed (fabricIn f) (four-words f) (q .limit) (q .port) (q .asked) short (rw (four-words f) sized),
+        few-listed (fabricIn f) at-most-eight (q .limit) (q .port) (q .asked) short (formed .care .long, formed .value .long),
         ports-are f,
       )
 
+  own : findsIn n es ≡ finds es
+  own = finds-own 8 (fabricIn f) (fabric-sound f s ok) at-most-eight (q .limit) (q .port) (q .asked) formed
+
   module _
       (area : List ℕ) (p : Passed) (after : List ℕ)
-      (e : playedThen p after ≡ listPassOf (fabricIn f) q area)
+      (e : playedThen p after ≡ listPassOf n (fabricIn f) q area)
     where
       -- a pass within the budget counts all words, and writes them if there is room for all
-      pub all-listed : withinBudget f q ≡ true → ListedAll (begin area) es (playedThen p after)
+      pub all-listed : withinBudget f q ≡ true → ListedAll (begin area) (finds es) (playedThen p after)
       all-listed within =
-          subst (ListedAll (begin area) es) (sym e)
-          (listed-all (q .budget) es (begin area) (ends-within (q .budget) es ∙ within) (omega (arith, few-words within)))
+          subst (ListedAll (begin area) (finds es)) (sym e)
+          (subst (λ (ds : List Find). ListedAll (begin area) ds (listPassOf n (fabricIn f) q area)) own
+          (listed-all n (q .budget) es (begin area) (ends-within (q .budget) es ∙ within)
+          (omega (arith, ap wordsOf own, few-words within))))
 
       -- its status says whether it was within the budget
       pub through-within : p .status ≡ 0 → withinBudget f q ≡ true
@@ -237,7 +256,7 @@ module _ (f : List ℕ) (q : Query) (short : q .limit ≤ 16) (small : q .budget
           go : (b : Bool) → withinBudget f q ≡ b → withinBudget f q ≡ true
           go true t = t
           go false t =
-              let used = listed-stops (q .budget) es (begin area) (ends-within (q .budget) es ∙ t) in
+              let used = listed-stops n (q .budget) es (begin area) (ends-within (q .budget) es ∙ t) in
               absurd (let y : ⊥ = omega (arith, ap (λ (x : Played). x .status) e) in y)
 
       pub else-over : (p .status ≡ 0 → ⊥) → withinBudget f q ≡ false
@@ -255,7 +274,7 @@ module _ (f : List ℕ) (q : Query) (area : List ℕ) where
 
   -- the questions asked before the trace, and after it
   abbrev asked-first : List Question
-  asked-first = traceQuestions (listTarget (fabricIn f) (q .port)) (q .limit) (q .asked)
+  asked-first = traceQuestions (fabricIn f .words) (listTarget (fabricIn f) (q .port)) (q .limit) (q .asked)
 
   abbrev asked-then : List Question
   asked-then = 13 asks withinBudget f q ∷ 12 asks leb (4 * length ws) (length area) ∷ []
@@ -274,7 +293,7 @@ module _ (f : List ℕ) (q : Query) (area : List ℕ) where
     then-asked : (within room : Bool) → withinBudget f q ≡ within → leb (4 * length ws) (length area) ≡ room
         → number ≡ pick within (pick room 0 12) 13
     then-asked within room w r =
-        first-no-more asked-first asked-then (trace-numbered (listTarget (fabricIn f) (q .port)) (q .limit) (q .asked)) z
+        first-no-more asked-first asked-then (trace-numbered (fabricIn f .words) (listTarget (fabricIn f) (q .port)) (q .limit) (q .asked)) z
         ∙ ap₂ (λ (a b : Bool). pick a (pick b 0 12) 13) w r
 
     -- "if one more is needed, question 13 gets a no"

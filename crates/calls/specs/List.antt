@@ -25,16 +25,16 @@ wordsAsked F q = listWords (finds (listAsked F q))
 -- 12. "For the list, asked after 13: enough for all of it?"
 abbrev pub listQuestions : Forwarding.Fabric → Query → List ℕ → List Question
 listQuestions F q area =
-    traceQuestions (listTarget F (q .port)) (q .limit) (q .asked)
+    traceQuestions (F .words) (listTarget F (q .port)) (q .limit) (q .asked)
     ++ (13 asks leb (units (listAsked F q)) (q .budget) ∷ 12 asks leb (4 * length (wordsAsked F q)) (length area) ∷ [])
 
 abbrev pub listAnswer : List ℕ → Query → Read → List ℕ → Outcome
 listAnswer f q r area = answerBy listQuestions wordsAsked f q r area
 
--- what the call list returns and leaves in the area
-unfoldable pub listCall : List ℕ → Query → List ℕ → Outcome
-listCall f q area = listAnswer f q (accepted f) area
+-- what the call list, for files whose headers have w words, returns and leaves in the area
+unfoldable pub listCall : ℕ → List ℕ → Query → List ℕ → Outcome
+listCall w f q area = listAnswer f q (accepted w f) area
 
--- one pass of the list
-abbrev pub listPassOf : Forwarding.Fabric → Query → List ℕ → Played
-listPassOf F q area = play (q .budget) listed (listAsked F q) (begin area)
+-- one pass of the list, which writes the first n words of care and value
+abbrev pub listPassOf : ℕ → Forwarding.Fabric → Query → List ℕ → Played
+listPassOf n F q area = play (q .budget) (listed n) (listAsked F q) (begin area)

@@ -1,19 +1,19 @@
 -- A query, question 12 of an answer of fixed length, and what a call is by its questions after 1 to 7.
 use mathlib.Core.Bool.{Bool}
 use mathlib.Core.List.{List}
-use Prim.Native.Nat.{ℕ, _+_, _*_}
+use Prim.Native.Nat.{ℕ, _*_}
 use lib.Dec.{leb, eqb}
 use lib.ListN.{length}
 use Rattle.headers.specs.Sets.{Set}
-use Rattle.answer.specs.Answer.{Outcome, refused, answered}
-use Rattle.records.specs.Records.{headerWords}
+use Rattle.answer.specs.Answer.{answerWords, Outcome, refused, answered}
 use Rattle.questions.specs.Questions.{pick, Question, firstNo}
 use Rattle.questions.specs.declared.Read.{Read}
 use Rattle.questions.specs.declared.Read.the-variants as Reads
 use Rattle.model.specs.Model.{fabricIn}
 use Rattle.forwarding.specs.Fabric.{Fabric}
 
--- "words 1 to 11 of the program's query": "target or start; hop limit; budget, unused by a run; care; value"
+-- "words 1 to 11 of the program's query": "target or start; hop limit; budget, unused by a run; care; value". The set has as many words
+-- as the version's headers
 pub record Query : Type 0 where
   pub port : ℕ
   pub limit : ℕ
@@ -24,13 +24,9 @@ pub record Query : Type 0 where
 abbrev pub query : ℕ → ℕ → ℕ → Set → Query
 query port limit budget asked = record { port = port; limit = limit; budget = budget; asked = asked }
 
--- the words of a verdict's or a run's answer: four, a header, and an entry for each hop
-abbrev pub answerWords : ℕ
-answerWords = 4 + headerWords + 16
-
--- 12. "Are 96 bytes lent (verdict, run)?"
-abbrev pub roomForAnswer : List ℕ → Bool
-roomForAnswer area = leb (4 * answerWords) (length area)
+-- 12. "Are 96 bytes lent (verdict, run)?" "112 bytes for 96" in version 2
+abbrev pub roomForAnswer : Fabric → List ℕ → Bool
+roomForAnswer F area = leb (4 * answerWords (F .words)) (length area)
 
 -- "Then, place 0": the number of the first no, if any, else what the call does
 abbrev pub orRefused : ℕ → List ℕ → Outcome → Outcome

@@ -1,23 +1,25 @@
 // Document 01's calls on an accepted fabric: questions 8 to 13, and the answer. Each returns the number of the first no, or the words of
 // its answer × 256; after a no every lent byte is as it was.
 use backtrace::Passed;
-use headers::HeaderSet;
 use index::CELLS;
 use index::UNUSED;
 use questions::ask;
 use records::Shape;
+use wide::WideHeader;
+use wide::WideSet;
 ghost use mathlib.Core.Bool.{true};
 ghost use mathlib.Core.List.{_++_};
 ghost use mathlib.Core.Path.{_≡_};
 ghost use Prim.Native.Nat.{_*_, _≤_};
 ghost use lib.ListN.{length, take, drop};
-ghost use Rattle.headers.specs.Forms.{setOf};
-ghost use Rattle.answer.specs.Answer.{outcome, writtenAt};
+ghost use Rattle.answer.specs.Answer.{answerWords, outcome, writtenAt};
+ghost use Rattle.records.specs.Records.{Width, widthIn};
+ghost use Rattle.wide.specs.Forms.{wideOf, narrowed, Fits};
 ghost use Rattle.questions.specs.Tables.{EdgeTable, StartTable};
 ghost use Rattle.questions.specs.declared.Read.the-variants.{Fabric};
 ghost use Rattle.file.specs.Accepted.{Accepted};
 ghost use Rattle.forwarding.specs.Verdict.{isolated};
-ghost use Rattle.model.specs.Model.{fabricIn};
+ghost use Rattle.model.specs.Model.{fabricIn, wideIn};
 ghost use Rattle.index.specs.Index.{Index};
 ghost use Rattle.backtrace.specs.Pass.{playedThen};
 ghost use Rattle.queries.specs.Queries.{listTarget};
@@ -26,10 +28,21 @@ ghost use Rattle.calls.specs.Run.{runAnswer};
 ghost use Rattle.calls.specs.Verdict.{verdictWords, verdictAnswer};
 ghost use Rattle.calls.specs.List.{listPassOf, listAnswer};
 
-// The bytes of a verdict's or a run's answer, and what is returned with its 24 words.
-const ANSWER: usize = 96;
+// The words of a verdict's or a run's answer: four, a header of w words, and an entry for each hop.
+fn answer_words(w: usize) -> usize
+    requires { ⌜ Width w ⌝ }
+    ensures { λ r. ⌜ r ≡ answerWords w ⌝ }
+{
+    4 + w + 16
+}
 
-const ANSWERED: u64 = 24 * 256;
+// What is returned with them.
+fn answered(w: usize) -> u64
+    requires { ⌜ Width w ⌝ }
+    ensures { λ r. ⌜ r ≡ answerWords w * 256 ⌝ }
+{
+    answer_words(w) as u64 * 256
+}
 
 // Questions 12 and 13, where they are asked by themselves.
 const NO_ROOM: u64 = 12;
@@ -53,17 +66,20 @@ pub fn run_accepted(
     start: u32,
     limit: u32,
     budget: u32,
-    asked: HeaderSet,
+    asked: WideSet,
 ) -> u64
     requires { ⌜ Accepted (now file) shape ⌝ }
     requires { ⌜ EdgeTable (now file) (shape .edges) (now «edge_of») ⌝ }
     requires { ⌜ StartTable (now file) (shape .edges) (shape .links) (now starts) ⌝ }
-    ensures { λ r. ⌜ outcome r (now (area .exit)) ≡ runAnswer (now (file .entry)) (query start limit budget (setOf asked)) (Fabric shape) (now (area .entry)) ⌝ }
+    requires { ⌜ Fits (shape .words) (wideOf asked) ⌝ }
+    ensures { λ r. ⌜ outcome r (now (area .exit)) ≡ runAnswer (now (file .entry))
+        (query start limit budget (narrowed (shape .words) (wideOf asked))) (Fabric shape) (now (area .entry)) ⌝ }
 {
-    let tidy = asked.is_tidy();
-    let all = queries::cares_for_all(asked);
+    let w = shape.words;
+    let tidy = queries::is_clean(asked);
+    let all = queries::cares_for_all(w, asked);
     let edge = queries::is_edge(file, shape, edge_of, start);
-    let room = ANSWER <= area.len();
+    let room = 4 * answer_words(w) <= area.len();
     let no = ask(
         9,
         queries::limit_right(limit),
@@ -72,22 +88,31 @@ pub fn run_accepted(
     if no != 0 {
         return no as u64;
     }
-    let header = asked.value;
+    let low = asked.low;
+    let high = asked.high;
+    let first = low.value;
+    let last = high.value;
+    let header = WideHeader {
+        low: first,
+        high: last,
+    };
     let j = journey::travel(file, shape, starts, start, limit as usize, header);
-    journey::put(area, j);
-    ANSWERED
+    journey::put(area, w, j);
+    answered(w)
 }
 
 // ---- the verdict
 
 // The words of 'isolated'.
-fn put_isolated(area: &mut [u8], units: u32)
-    requires { ⌜ 96 ≤ length (now area) ⌝ }
-    ensures { λ _. ⌜ now (area .exit) ≡ writtenAt 0 (verdictWords (isolated units)) (now (area .entry)) ⌝ }
+fn put_isolated(area: &mut [u8], w: usize, units: u32)
+    requires { ⌜ Width w ⌝ }
+    requires { ⌜ 4 * answerWords w ≤ length (now area) ⌝ }
+    ensures { λ _. ⌜ now (area .exit) ≡ writtenAt 0 (verdictWords w (isolated units)) (now (area .entry)) ⌝ }
 {
-    let mut words = [0u32; 24];
+    let mut words = [0u32; 28];
     words[1] = units;
-    answer::put_words(area, 0, &words);
+    let n = answer_words(w);
+    answer::put_words(area, 0, &words[..n]);
 }
 
 // The verdict on an accepted file, after questions 8 to 12.
@@ -99,17 +124,20 @@ pub fn verdict_accepted(
     target: u32,
     limit: u32,
     budget: u32,
-    asked: HeaderSet,
+    asked: WideSet,
 ) -> u64
     requires { ⌜ Accepted (now file) shape ⌝ }
     requires { ⌜ EdgeTable (now file) (shape .edges) (now «edge_of») ⌝ }
-    ensures { λ r. ⌜ outcome r (now (area .exit)) ≡ verdictAnswer (now (file .entry)) (query target limit budget (setOf asked)) (Fabric shape) (now (area .entry)) ⌝ }
+    requires { ⌜ Fits (shape .words) (wideOf asked) ⌝ }
+    ensures { λ r. ⌜ outcome r (now (area .exit)) ≡ verdictAnswer (now (file .entry))
+        (query target limit budget (narrowed (shape .words) (wideOf asked))) (Fabric shape) (now (area .entry)) ⌝ }
 {
     let no = queries::verdict_no(file, shape, edge_of, target, limit, asked);
     if no != 0 {
         return no as u64;
     }
-    if area.len() < ANSWER {
+    let w = shape.words;
+    if area.len() < 4 * answer_words(w) {
         return NO_ROOM;
     }
     let mut index = [UNUSED; CELLS];
@@ -130,10 +158,10 @@ pub fn verdict_accepted(
         return BUDGET_USED;
     }
     if p.status == 2 {
-        return ANSWERED;
+        return answered(w);
     }
-    put_isolated(area, p.made as u32);
-    ANSWERED
+    put_isolated(area, w, p.made as u32);
+    answered(w)
 }
 
 // ---- the list
@@ -161,7 +189,7 @@ fn list_pass(
     target: u32,
     limit: u32,
     budget: u32,
-    asked: HeaderSet,
+    asked: WideSet,
 ) -> Passed
     requires { ⌜ Accepted (now file) shape ⌝ }
     requires { ⌜ EdgeTable (now file) (shape .edges) (now «edge_of») ⌝ }
@@ -169,7 +197,8 @@ fn list_pass(
     requires { ⌜ listTarget (fabricIn (now file)) target ≡ true ⌝ }
     requires { ⌜ (1 ≤ limit) × (limit ≤ 16) ⌝ }
     ensures { λ r. ⌜ playedThen r (now (area .exit))
-        ≡ listPassOf (fabricIn (now (file .entry))) (query target limit budget (setOf asked)) (now (area .entry)) ⌝ }
+        ≡ listPassOf (widthIn (now (file .entry))) (wideIn (now (file .entry))) (query target limit budget (wideOf asked))
+        (now (area .entry)) ⌝ }
 {
     if target == 0 {
         return losses::lost_pass(file, area, shape, index, limit, budget, asked);
@@ -198,11 +227,13 @@ pub fn list_accepted(
     target: u32,
     limit: u32,
     budget: u32,
-    asked: HeaderSet,
+    asked: WideSet,
 ) -> u64
     requires { ⌜ Accepted (now file) shape ⌝ }
     requires { ⌜ EdgeTable (now file) (shape .edges) (now «edge_of») ⌝ }
-    ensures { λ r. ⌜ outcome r (now (area .exit)) ≡ listAnswer (now (file .entry)) (query target limit budget (setOf asked)) (Fabric shape) (now (area .entry)) ⌝ }
+    requires { ⌜ Fits (shape .words) (wideOf asked) ⌝ }
+    ensures { λ r. ⌜ outcome r (now (area .exit)) ≡ listAnswer (now (file .entry))
+        (query target limit budget (narrowed (shape .words) (wideOf asked))) (Fabric shape) (now (area .entry)) ⌝ }
 {
     let no = queries::list_no(file, shape, edge_of, target, limit, asked);
     if no != 0 {

@@ -2,17 +2,17 @@
 -- without.
 use mathlib.Core.Bool.{Bool, true, false, false≢true}
 use mathlib.Core.List.{List}
+use mathlib.Core.Option.{Option, some, none, bind}
 use mathlib.Core.Path.{_≡_, refl, sym, ap, _∙_}
 use Prim.Native.Nat.{ℕ}
 use Rattle.headers.specs.Sets.{Set, undone, intersection}
 use Rattle.headers.specs.Actions.{metBefore}
-use Rattle.headers.specs.Forms.{setOf, maybeOf}
-use Rattle.headers.specs.declared.MaybeSet.{MaybeSet}
 use Rattle.headers.specs.declared.Transfer.{Transfer}
 use Rattle.headers.specs.declared.Transfer.the-variants.{Keep, Copy, Swap}
-use Rattle.headers.proofs.Answers.{then-set, then-empty}
 use Rattle.headers.proofs.Acting.{before-steps, met-kept}
-use Rattle.records.specs.Records.{headerWords, entryMatch, entryAction}
+use Rattle.records.specs.Records.{matchAt, rewriteAt, entryTransfer}
+use Rattle.wide.specs.Forms.{wideWords, wideOf, maybeWideOf, storedAt, rewriteStored}
+use Rattle.wide.specs.declared.MaybeWide.{MaybeWide}
 use Rattle.entries.specs.Entries.{keeps, backFrom}
 
 keep-is : (t : Transfer) → keeps t ≡ true → t ≡ Keep
@@ -20,26 +20,43 @@ keep-is Keep e = refl
 keep-is Copy e = absurd (false≢true e)
 keep-is Swap e = absurd (false≢true e)
 
-module _ (x : List ℕ) (t : Set) {u : MaybeSet} (undo : u ≡ maybeOf (undone headerWords (entryAction x .rewrite) t)) where
-  -- nothing is made into headers of t
-  pub back-empty : u .some ≡ false → u ≡ maybeOf (backFrom x t)
-  back-empty e =
-      then-empty (undone headerWords (entryAction x .rewrite) t) (metBefore headerWords (entryMatch x) (entryAction x .transfer)) u undo e
-      ∙ ap maybeOf (sym (before-steps headerWords (entryMatch x) (entryAction x) t))
+-- what an answer says of the option that it is
+module _ (m : MaybeWide) {o : Option Set} (is : maybeWideOf m ≡ o) where
+  pub maybe-none : m .some ≡ false → o ≡ none
+  maybe-none e = sym is ∙ rw e
 
-  module _ (e : u .some ≡ true) where
-    pub back-moved : {m : MaybeSet} → m ≡ maybeOf (metBefore headerWords (entryMatch x) (entryAction x .transfer) (setOf (u .set)))
-        → m ≡ maybeOf (backFrom x t)
-    back-moved h =
-        h
-        ∙ then-set (undone headerWords (entryAction x .rewrite) t)
-        (metBefore headerWords (entryMatch x) (entryAction x .transfer)) u undo e
-        ∙ ap maybeOf (sym (before-steps headerWords (entryMatch x) (entryAction x) t))
+  pub maybe-some : m .some ≡ true → o ≡ some (wideOf (m .set))
+  maybe-some e = sym is ∙ rw e
 
-    pub back-kept : {k : Bool} → k ≡ keeps (entryAction x .transfer) → k ≡ true
-        → {m : MaybeSet} → m ≡ maybeOf (intersection headerWords (setOf (u .set)) (entryMatch x)) → m ≡ maybeOf (backFrom x t)
-    back-kept is k h = back-moved
-        (h
-        ∙ ap maybeOf (sym (met-kept headerWords (entryMatch x) (setOf (u .set))))
-        ∙ ap (λ (t : Transfer). maybeOf (metBefore headerWords (entryMatch x) t (setOf (u .set))))
-        (sym (keep-is (entryAction x .transfer) (sym is ∙ k))))
+module _ (w : ℕ) (x : List ℕ) (t : Set) where
+  -- what the rewrite makes into headers of t, and the headers in the match that the transfer takes into such a set
+  abbrev before-rewrite : Option Set
+  before-rewrite = undone wideWords (rewriteStored w x (rewriteAt w)) t
+
+  abbrev in-match : Set → Option Set
+  in-match = metBefore wideWords (storedAt w x matchAt) (entryTransfer x)
+
+  back-steps : backFrom w x t ≡ bind before-rewrite in-match
+  back-steps = before-steps wideWords (storedAt w x matchAt) _ t
+
+  module _ (u : MaybeWide) (undo : maybeWideOf u ≡ before-rewrite) where
+    -- nothing is made into headers of t
+    pub back-empty : u .some ≡ false → maybeWideOf u ≡ backFrom w x t
+    unfolding bind
+    back-empty e =
+        let none-before = maybe-none u undo e in
+        undo ∙ none-before ∙ sym (back-steps ∙ ap (λ (o : Option Set). bind o in-match) none-before)
+
+    module _ (e : u .some ≡ true) where
+      pub back-moved : (m : MaybeWide) → maybeWideOf m ≡ in-match (wideOf (u .set)) → maybeWideOf m ≡ backFrom w x t
+      unfolding bind
+      back-moved m h = h ∙ sym (back-steps ∙ ap (λ (o : Option Set). bind o in-match) (maybe-some u undo e))
+
+      pub back-kept : {k : Bool} → k ≡ keeps (entryTransfer x) → k ≡ true
+          → (m : MaybeWide) → maybeWideOf m ≡ intersection wideWords (wideOf (u .set)) (storedAt w x matchAt)
+          → maybeWideOf m ≡ backFrom w x t
+      back-kept is k m h = back-moved m
+          (h
+          ∙ sym (met-kept wideWords (storedAt w x matchAt) (wideOf (u .set)))
+          ∙ ap (λ (t : Transfer). metBefore wideWords (storedAt w x matchAt) t (wideOf (u .set)))
+          (sym (keep-is (entryTransfer x) (sym is ∙ k))))

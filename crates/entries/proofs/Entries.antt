@@ -1,24 +1,27 @@
 -- An entry's own bytes of an accepted file, and what the file's fabric says of that entry. Assumes nothing.
 use mathlib.Core.List.{List}
-use mathlib.Core.Path.{_≡_, refl, ap, _∙_}
+use mathlib.Core.Path.{_≡_, refl, ap, ap₂, subst}
 use Prim.Native.Nat.{ℕ, _+_, _-_, _*_, _≤_, _<_}
 use native.Mathlib.Omega.{arith}
 use borrow.Author.Tests.{lt-ltb}
 use lib.ListN.{length, take, drop}
 use Rattle.headers.specs.Sets.{Set, WellFormed}
-use Rattle.headers.specs.Actions.{before}
+use Rattle.headers.specs.Actions.{paddedAct, before}
+use Rattle.headers.proofs.Padded.{well-formed-padded}
 use Rattle.records.specs.Words.{bytesFrom}
-use Rattle.records.specs.Records.{headerWords, entryWords, entryIn, entryPriority, entryMatch, entryAction, placeOf}
+use Rattle.records.specs.Records.{widthIn, matchAt, entryWords, entryIn, entryPriority, placeOf, EntryLong}
 use Rattle.records.specs.declared.Shape.{Shape}
+use Rattle.records.proofs.Widths.{width-is}
+use Rattle.wide.specs.Forms.{wideWords, widest, storedAt}
 use Rattle.file.proofs.Accepted.{few-entries, entry-inside, entry-of}
 use Rattle.forwarding.specs.Fabric.{Entry, inPortOf, priorityOf, undoes}
 use Rattle.forwarding.specs.BackTrace.{back}
-use Rattle.model.specs.Model.{AFabric, shapeRead, shapeIn, entryFrom, fabricOf, fabricIn, entriesAt}
+use Rattle.model.specs.Model.{AFabric, shapeRead, shapeIn, entryFrom, fabricOf, fabricIn, wideIn, entriesAt}
 use Rattle.entries.specs.Entries.{IsEntry, backFrom}
 
-pub four-words : (f : List ℕ) → fabricIn f .words ≡ headerWords
+pub words-are : (f : List ℕ) → fabricIn f .words ≡ widthIn f
 unfolding fabricIn fabricOf
-four-words f = refl
+words-are f = refl
 
 module _ {f : List ℕ} (a : AFabric f) where
   pub shape-is : shapeIn f ≡ a .shape
@@ -32,35 +35,46 @@ module _ {f : List ℕ} (a : AFabric f) where
   pub entries-few : fabricIn f .entries ≤ 512
   entries-few = rw entries-are (few-entries f (a .shape) (a .is-accepted))
 
-  begins : entriesAt f ≡ 4 * placeOf (a .shape .edges) (a .shape .links) 0
+  begins : entriesAt f ≡ 4 * placeOf (widthIn f) (a .shape .edges) (a .shape .links) 0
   unfolding entriesAt
-  begins = ap (λ (s : Shape). 4 * placeOf (s .edges) (s .links) 0) shape-is
+  begins = ap (λ (s : Shape). 4 * placeOf (widthIn f) (s .edges) (s .links) 0) shape-is
 
   module _ {e : ℕ} (l : e < fabricIn f .entries) where
     below : e < a .shape .entries
     below = rw entries-are at l
 
-    -- entry e's bytes lie in the file
-    pub entry-room : entriesAt f + e * 72 + 72 ≤ length f
-    entry-room = omega (arith, begins, entry-inside f (a .shape) (a .is-accepted) e below)
+    module _ (n : ℕ) (is : n ≡ 4 * entryWords (widthIn f)) where
+      -- entry e's n bytes lie in the file
+      pub entry-room : entriesAt f + e * n + n ≤ length f
+      entry-room = rw is (omega (arith, begins, entry-inside f (a .shape) (a .is-accepted) e below))
 
-    -- and are those from there on
-    pub entry-part : (k : ℕ) → k ≡ entriesAt f + e * 72 → IsEntry f e (take (k + 72 - k) (drop k f))
-    unfolding bytesFrom
-    entry-part k h =
-        let size : k + 72 - k ≡ 4 * entryWords = omega arith in
-        let place : k ≡ 4 * placeOf (a .shape .edges) (a .shape .links) e = omega (arith, begins) in
-        record { within = l; bytes = rw (shape-is, size, place) }
+      -- and are those from there on
+      pub entry-part : (k : ℕ) → k ≡ entriesAt f + e * n → IsEntry f e (take (k + n - k) (drop k f))
+      unfolding bytesFrom
+      entry-part k h =
+          let size : k + n - k ≡ 4 * entryWords (widthIn f) = omega arith in
+          let place : k ≡ 4 * placeOf (widthIn f) (a .shape .edges) (a .shape .links) e = omega (arith, begins, rw is at h) in
+          record { within = l; bytes = rw (shape-is, size, place) }
 
-    pub match-well-formed : WellFormed headerWords (fabricIn f .entry e .matches)
+    pub match-well-formed : WellFormed (widthIn f) (fabricIn f .entry e .matches)
     unfolding fabricIn fabricOf
     match-well-formed = rw (lt-ltb e (shapeIn f .entries) l, shape-is) (entry-of f (a .shape) (a .is-accepted) e below .matches)
 
-  module _ {e : ℕ} {x : List ℕ} (i : IsEntry f e x) where
-    pub entry-long : length x ≡ 4 * entryWords
-    entry-long = rw (i .bytes, shape-is) (entry-of f (a .shape) (a .is-accepted) e (below (i .within)) .long)
+    -- the same with wild words up to eight
+    pub wide-match-well-formed : WellFormed wideWords (wideIn f .entry e .matches)
+    wide-match-well-formed =
+        let sum : widthIn f + (wideWords - widthIn f) ≡ wideWords = omega (arith, width-is f .high) in
+        rw (words-are f) (subst (λ (n : ℕ). WellFormed n (widest (widthIn f) (fabricIn f .entry e .matches))) sum
+        (well-formed-padded (widthIn f) (wideWords - widthIn f) (fabricIn f .entry e .matches) match-well-formed))
 
-    pub entry-is : fabricIn f .entry e ≡ entryFrom x
+  module _ {e : ℕ} {x : List ℕ} (i : IsEntry f e x) where
+    pub entry-long : EntryLong (widthIn f) x
+    entry-long = record { width = width-is f; long = long }
+      where
+        long : length x ≡ 4 * entryWords (widthIn f)
+        long = rw (i .bytes, shape-is) (entry-of f (a .shape) (a .is-accepted) e (below (i .within)) .long)
+
+    pub entry-is : fabricIn f .entry e ≡ entryFrom (widthIn f) x
     unfolding fabricIn fabricOf
     entry-is =
         let t = lt-ltb e (shapeIn f .entries) (i .within) in
@@ -72,12 +86,12 @@ module _ {f : List ℕ} (a : AFabric f) where
     pub priority-is : priorityOf (fabricIn f) e ≡ entryPriority x
     priority-is = ap (λ (y : Entry). y .priority) entry-is
 
-    pub match-is : fabricIn f .entry e .matches ≡ entryMatch x
-    match-is = ap (λ (y : Entry). y .matches) entry-is
+    pub match-is : wideIn f .entry e .matches ≡ storedAt (widthIn f) x matchAt
+    match-is = ap₂ (λ (n : ℕ) (y : Entry). widest n (y .matches)) (words-are f) entry-is
 
     -- what the entry takes at its in-port and makes into headers of t
-    pub back-is : (t : Set) → back (fabricIn f) e t ≡ backFrom x t
+    pub back-is : (t : Set) → back (wideIn f) e t ≡ backFrom (widthIn f) x t
     unfolding back undoes before
     back-is t =
-        ap (λ (y : Entry). before (fabricIn f .words) (y .matches) (y .action) t) entry-is
-        ∙ ap (λ (n : ℕ). before n (entryMatch x) (entryAction x) t) (four-words f)
+        ap₂ (λ (n : ℕ) (y : Entry). before wideWords (widest n (y .matches)) (paddedAct (wideWords - n) (y .action)) t)
+        (words-are f) entry-is

@@ -8,20 +8,22 @@ use Prim.Native.Nat.{ℕ, _-_, _≤_, _<_}
 use lib.Dec.{eqb, leb}
 use Rattle.headers.specs.Bits.{positions, those}
 use Rattle.headers.specs.Sets.{Set}
-use Rattle.headers.specs.Actions.{before}
+use Rattle.headers.specs.Actions.{paddedAct, before}
 use Rattle.headers.specs.declared.Transfer.{Transfer}
 use Rattle.headers.specs.declared.Transfer.the-variants.{Keep, Copy, Swap}
-use Rattle.records.specs.Records.{headerWords, entryMatch, entryAction, entryBytes}
+use Rattle.records.specs.Records.{widthIn, matchAt, entryAction, entryBytes}
+use Rattle.wide.specs.Forms.{wideWords, storedAt}
 use Rattle.forwarding.specs.Fabric.{Fabric, inPortOf, priorityOf}
 use Rattle.model.specs.Model.{AFabric, fabricIn, shapeIn, entriesAt}
 use Rattle.index.specs.Chains.{noEntry}
 
 -- ---- one entry
 
--- the entries of an accepted file begin at byte `base`
-pub record EntriesFrom (f : List ℕ) (base : ℕ) : Type 0 where
+-- the entries of an accepted file begin at byte `base`, and its headers have w words
+pub record EntriesFrom (f : List ℕ) (base w : ℕ) : Type 0 where
   pub fabric : AFabric f
   pub base-is : base ≡ entriesAt f
+  pub width-is : w ≡ widthIn f
 
 -- x is entry e's own bytes
 pub record IsEntry (f : List ℕ) (e : ℕ) (x : List ℕ) : Type 0 where
@@ -34,9 +36,9 @@ keeps Keep = true
 keeps Copy = false
 keeps Swap = false
 
--- T4: the headers that an entry takes and makes into headers of t, from its own bytes
-abbrev pub backFrom : List ℕ → Set → Option Set
-backFrom x t = before headerWords (entryMatch x) (entryAction x) t
+-- T4: the headers that an entry takes and makes into headers of t, of eight words, from its own bytes
+abbrev pub backFrom : ℕ → List ℕ → Set → Option Set
+backFrom w x t = before wideWords (storedAt w x matchAt) (paddedAct (wideWords - w) (entryAction w x)) t
 
 -- ---- the entries of one in-port
 

@@ -10,7 +10,8 @@ use lib.Dec.{eqb, ltb}
 use Rattle.headers.specs.Sets.{Header}
 use Rattle.forwarding.specs.Trace.{Find, Event, unit, find}
 use Rattle.forwarding.specs.Verdict.{foreignPacket}
-use Rattle.model.specs.Model.{fabricIn}
+use Rattle.records.specs.Records.{widthIn}
+use Rattle.model.specs.Model.{wideIn}
 use Rattle.events.specs.Play.{World, Played, nextIf, unitMade, makeUnit, step, play, listed, judged, judgedBy}
 use Rattle.events.specs.Asked.{modeOf, targetOf, foundBy}
 
@@ -19,12 +20,12 @@ pub found-makes-none : (f ask : List ℕ) (d : Find) (w : World) → foundBy f a
 unfolding foundBy listed judged
 found-makes-none f ask d w = by (eqb (modeOf ask) 3)
   where
-    if-foreign : (o : Option Header) → judgedBy (fabricIn f) (targetOf ask) o d w .world .made ≡ w .made
+    if-foreign : (o : Option Header) → judgedBy (wideIn f) (widthIn f) (targetOf ask) o d w .world .made ≡ w .made
     if-foreign none = refl
     if-foreign (some h) = refl
 
-    by : (b : Bool) → cond b (judged (fabricIn f) (targetOf ask)) listed d w .world .made ≡ w .made
-    by true = if-foreign (foreignPacket (fabricIn f) (targetOf ask) d)
+    by : (b : Bool) → cond b (judged (wideIn f) (widthIn f) (targetOf ask)) (listed (widthIn f)) d w .world .made ≡ w .made
+    by true = if-foreign (foreignPacket (wideIn f) (targetOf ask) d)
     by false = refl
 
 pub unit-within : (budget : ℕ) (w : World) → w .made ≤ budget → makeUnit budget w .world .made ≤ budget

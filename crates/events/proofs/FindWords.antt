@@ -3,10 +3,11 @@ use mathlib.Core.List.{List, [], _∷_, _++_, map}
 use mathlib.Core.Path.{_≡_, ap, ap₂, _∙_}
 use Prim.Native.Nat.{ℕ, _+_, _-_, _*_, _^_, _≤_, _<_}
 use lib.ListN.{length, getD, take, drop, replicate, length-append, length-drop, length-map, drop-of-length-le}
-use lib.Seq.{drop-cons, take-append-add}
+use lib.Seq.{drop-cons, take-append-add, length-take-le}
 use native.Mathlib.Numerals.{add-one}
 use native.Mathlib.Omega.{arith}
 use Rattle.headers.specs.Sets.{Set}
+use Rattle.records.specs.Records.{half, Width, setWords}
 use Rattle.answer.specs.Answer.{writtenAt, sixteen}
 use Rattle.answer.proofs.Written.{written-next, written-none}
 use Rattle.events.specs.Play.{findWords}
@@ -17,6 +18,10 @@ pub written-both : (at : ℕ) (us vs area : List ℕ) {place : ℕ} {now next : 
     → place ≡ at + length us → 4 * place ≤ length area → next ≡ writtenAt at (us ++ vs) area
 written-both at us vs area p q e room =
     q ∙ ap₂ (λ (k : ℕ) (l : List ℕ). writtenAt k vs l) e p ∙ written-next at us vs area (omega arith)
+
+-- the first w words of four and four
+pub narrowed-long : {w : ℕ} → Width w → (l r : List ℕ) → length l ≡ half → length r ≡ half → length (take w (l ++ r)) ≡ w
+narrowed-long {w = w} d l r low high = length-take-le w (l ++ r) (omega (arith, length-append l r, d .high))
 
 -- ---- the words of entries
 
@@ -47,11 +52,11 @@ module _ {path : List ℕ} {d : ℕ} (is-path : Path path d) where
   pub entry-words-are : length (entryWords (drop d path)) ≡ 16 - d
   entry-words-are = length-map (drop d path) (λ (e : ℕ). 7 * 2 ^ 28 + e) ∙ hops-are
 
-  -- "word of kind 6 ..; for each entry .. a word of kind 7 ..; care (4), value (4)"
-  pub find-words-are : (f : List ℕ) (k : ℕ) (s : Set) → length (s .care) ≡ 4 → length (s .value) ≡ 4
-      → length (findWords (findAt f k path d s)) ≡ 25 - d
+  -- a word, one for each entry, care and value of w words each
+  pub find-words-are : (f : List ℕ) (k w : ℕ) (s : Set) → length (s .care) ≡ w → length (s .value) ≡ w
+      → length (findWords (findAt f k path d s)) ≡ 17 - d + setWords w
   unfolding findWords
-  find-words-are f k s care value =
+  find-words-are f k w s care value =
       omega (
         arith,
         length-append (entryWords (drop d path)) (s .care ++ s .value),

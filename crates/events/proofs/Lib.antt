@@ -7,3 +7,4 @@ mod FindEdge
 mod FindForeign
 pub mod VerdictPlayed
 pub mod ListPlayed
+pub mod Widened

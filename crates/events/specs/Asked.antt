@@ -1,17 +1,18 @@
--- What the code of the trace is handed beside the file and the index: six numbers, an array of 16 entries, two counters. Assumes nothing.
+-- What the code of the trace is handed beside the file and the index: seven numbers, an array of 16 entries, two counters. Assumes nothing.
 use mathlib.Core.Bool.{Bool, true, false, cond}
 use mathlib.Core.List.{List}
 use mathlib.Core.Path.{_≡_}
-use Prim.Native.Nat.{ℕ, _≤_, _<_}
+use Prim.Native.Nat.{ℕ, _*_, _≤_, _<_}
 use lib.Dec.{eqb}
 use lib.ListN.{length, getD, drop}
 use Rattle.headers.specs.Sets.{Set}
-use Rattle.records.specs.Records.{portOfEdge}
+use Rattle.answer.specs.Answer.{answerWords}
+use Rattle.records.specs.Records.{Width, widthIn, edgeWords, portOfEdge}
 use Rattle.forwarding.specs.Trace.{Find}
-use Rattle.model.specs.Model.{AFabric, fabricIn, entriesAt}
+use Rattle.model.specs.Model.{AFabric, fabricIn, wideIn, entriesAt}
 use Rattle.events.specs.Play.{World, Played, makeUnit, listed, judged}
 
--- the six numbers
+-- the seven numbers
 abbrev pub budgetOf : List ℕ → ℕ
 budgetOf ask = getD ask 0 0
 
@@ -33,10 +34,20 @@ groupOf ask = getD ask 4 0
 abbrev pub baseOf : List ℕ → ℕ
 baseOf ask = getD ask 5 0
 
+-- the words of a header in the file
+abbrev pub wordsAsked : List ℕ → ℕ
+wordsAsked ask = getD ask 6 0
+
 pub record Asked (f ask : List ℕ) : Type 0 where
   pub fabric : AFabric f
   pub group-is : groupOf ask ≡ fabricIn f .group (targetOf ask)
   pub base-is : baseOf ask ≡ entriesAt f
+  pub width-is : wordsAsked ask ≡ widthIn f
+
+-- as long as an edge with headers of w words
+pub record EdgeLong (w : ℕ) (x : List ℕ) : Type 0 where
+  pub width : Width w
+  pub long : length x ≡ 4 * edgeWords w
 
 -- the entries on the way from here on, in travelling order: places d to 15 of the path
 pub record Path (path : List ℕ) (d : ℕ) : Type 0 where
@@ -55,11 +66,11 @@ playedOf status counters area = record { status = status; world = worldOf counte
 pub record Room (ask counters area : List ℕ) : Type 0 where
   pub counters-long : length counters ≡ 2
   pub made-within : getD counters 0 0 ≤ budgetOf ask
-  pub verdict-room : modeOf ask ≡ 3 → 96 ≤ length area
+  pub verdict-room : modeOf ask ≡ 3 → 4 * answerWords (wordsAsked ask) ≤ length area
 
 -- what is done with a find, by the mode
 abbrev pub byMode : ℕ → List ℕ → ℕ → Find → World → Played
-byMode mode f target = cond (eqb mode 3) (judged (fabricIn f) target) listed
+byMode mode f target = cond (eqb mode 3) (judged (wideIn f) (widthIn f) target) (listed (widthIn f))
 
 unfoldable pub foundBy : List ℕ → List ℕ → Find → World → Played
 foundBy f ask = byMode (modeOf ask) f (targetOf ask)

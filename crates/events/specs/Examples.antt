@@ -5,7 +5,7 @@ use mathlib.Core.Path.{_≡_, refl}
 use lib.ListN.{replicate}
 use Rattle.answer.specs.Answer.{sixteen}
 use Rattle.forwarding.specs.Trace.{Find}
-use Rattle.events.specs.Play.{findWords, listWords, reachedWords}
+use Rattle.events.specs.Play.{findWords, narrowFind, listWords, reachedWords}
 
 -- port 12, three hops by entries 5, 4 and 2
 abbrev aFind : Find
@@ -19,6 +19,17 @@ find-words : findWords aFind
     ≡ 0x6000300c ∷ 0x70000005 ∷ 0x70000004 ∷ 0x70000002 ∷ 1 ∷ 2 ∷ 3 ∷ 4 ∷ 6 ∷ 7 ∷ 8 ∷ 9 ∷ []
 unfolding findWords
 find-words = refl
+
+-- the same find of eight words, as a file of version 1 has it: the first four of care and of value
+abbrev aWideFind : Find
+aWideFind = record {
+  port = 12;
+  path = 5 ∷ 4 ∷ 2 ∷ [];
+  set = record { care = 1 ∷ 2 ∷ 3 ∷ 4 ∷ 0 ∷ 0 ∷ 0 ∷ 0 ∷ []; value = 6 ∷ 7 ∷ 8 ∷ 9 ∷ 0 ∷ 0 ∷ 0 ∷ 0 ∷ [] };
+}
+
+narrow-find : narrowFind 4 aWideFind ≡ aFind
+narrow-find = refl
 
 -- one find's words right after the other's, in order
 abbrev anotherFind : Find

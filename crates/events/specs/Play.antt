@@ -5,9 +5,10 @@ use mathlib.Core.List.{List, [], _∷_, _++_, map}
 use mathlib.Core.Option.{Option, some, none}
 use Prim.Native.Nat.{ℕ, zero, suc, _+_, _*_, _/_, _^_}
 use lib.Dec.{ltb, leb}
-use lib.ListN.{length}
+use lib.ListN.{length, take}
 use Rattle.headers.specs.Sets.{Header}
 use Rattle.answer.specs.Answer.{writtenAt, sixteen}
+use Rattle.wide.specs.Forms.{narrowed}
 use Rattle.forwarding.specs.Fabric.{Fabric}
 use Rattle.forwarding.specs.Trace.{Find, Event, unit, find}
 use Rattle.forwarding.specs.Verdict.{foreignPacket}
@@ -55,7 +56,7 @@ module _ (budget : ℕ) (found : Find → World → Played) where
 -- ---- what is done with a find
 
 -- "word of kind 6 (bits 27..12 hops, 11..0 edge port); for each entry in travelling order a word of kind 7 with its number below;
--- care (4), value (4)"
+-- care (4), value (4)", or eight of each in version 2
 unfoldable pub findWords : Find → List ℕ
 findWords d =
     (6 * 2 ^ 28 + length (d .path) * 2 ^ 12 + d .port) ∷ (map (λ e. 7 * 2 ^ 28 + e) (d .path) ++ (d .set .care ++ d .set .value))
@@ -72,25 +73,33 @@ countedOn false words n = words
 abbrev pub fittedAt : ℕ → List ℕ → List ℕ → List ℕ
 fittedAt at ws area = cond (leb (at + length ws) (length area / 4)) (writtenAt at ws area) area
 
+-- a find of eight words as the file has it, whose headers have n
+abbrev pub narrowFind : ℕ → Find → Find
+narrowFind n d = record { port = d .port; path = d .path; set = narrowed n (d .set) }
+
 -- the list: a find's words are counted, and written where there is room for them
-unfoldable pub listed : Find → World → Played
-listed d w = goesOn (record {
+unfoldable pub listed : ℕ → Find → World → Played
+listed n d w = goesOn (record {
   made = w .made;
-  words = countedOn (ltb (w .words) tooMany) (w .words) (length (findWords d));
-  area = fittedAt (w .words) (findWords d) (w .area);
+  words = countedOn (ltb (w .words) tooMany) (w .words) (length (findWords (narrowFind n d)));
+  area = fittedAt (w .words) (findWords (narrowFind n d)) (w .area);
 })
 
 -- "0 isolated or 1 reached; units made; edge port; hops; header (4); entries in travelling order"
 unfoldable pub reachedWords : ℕ → ℕ → List ℕ → Header → List ℕ
 reachedWords units port path h = 1 ∷ units ∷ port ∷ length path ∷ (h ++ sixteen path)
 
--- "The verdict stops at the first find with a foreign packet"
-module _ (f : Fabric) (target : ℕ) where
+-- "The verdict stops at the first find with a foreign packet", of whose header it tells the first n words
+module _ (f : Fabric) (n target : ℕ) where
   abbrev pub judgedBy : Option Header → Find → World → Played
   judgedBy none d w = goesOn w
   judgedBy (some h) d w = record {
     status = 2;
-    world = record { made = w .made; words = w .words; area = writtenAt 0 (reachedWords (w .made) (d .port) (d .path) h) (w .area) };
+    world = record {
+      made = w .made;
+      words = w .words;
+      area = writtenAt 0 (reachedWords (w .made) (d .port) (d .path) (take n h)) (w .area);
+    };
   }
 
   unfoldable pub judged : Find → World → Played

@@ -1,30 +1,38 @@
 // What is done with an event of the back-trace: a unit is made, if the budget has it; the words of a find are counted and written for the
 // list, or it is judged for the verdict. Document 01, the last three paragraphs of "The back-trace and its count".
-use headers::HeaderSet;
-use headers::MaybeSet;
+use records::ADMITTED;
+use wide::MaybeWide;
+use wide::WideHeader;
+use wide::WideSet;
 ghost use mathlib.Core.Bool.{cond};
 ghost use mathlib.Core.List.{_++_, map, head?};
 ghost use mathlib.Core.Option.{some};
 ghost use mathlib.Core.Path.{_≡_};
 ghost use Prim.Native.Nat.{_+_, _-_, _*_, _^_, _<_, _≤_};
 ghost use lib.Dec.{eqb, ltb};
-ghost use lib.ListN.{length, getD, drop};
+ghost use lib.ListN.{length, getD, take, drop};
 ghost use Rattle.headers.specs.Sets.{lowest};
 ghost use Rattle.headers.specs.Carving.{carve};
-ghost use Rattle.headers.specs.Forms.{setOf, maybeOf};
-ghost use Rattle.answer.specs.Answer.{writtenAt, sixteen};
-ghost use Rattle.records.specs.Records.{edgeWords, edgeGroup, edgeAdmitted, portOfEdge};
+ghost use Rattle.answer.specs.Answer.{answerWords, writtenAt, sixteen};
+ghost use Rattle.records.specs.Records.{Width, widthIn, setWords, admittedAt, edgeGroup, portOfEdge};
+ghost use Rattle.wide.specs.Forms.{wideWords, wideOf, maybeWideOf, narrowed, storedAt};
 ghost use Rattle.file.specs.Accepted.{HasEdge};
-ghost use Rattle.model.specs.Model.{fabricIn};
-ghost use Rattle.events.specs.Play.{findWords, reachedWords, tooMany, countedOn, fittedAt, listed, judged};
-ghost use Rattle.events.specs.Asked.{Asked, Path, Room, budgetOf, targetOf, worldOf, playedOf, foundBy, findAt, UnitMade};
+ghost use Rattle.model.specs.Model.{wideIn};
+ghost use Rattle.events.specs.Play.{findWords, narrowFind, reachedWords, tooMany, countedOn, fittedAt, listed, judged};
+ghost use Rattle.events.specs.Asked.{Asked, Path, Room, EdgeLong, budgetOf, targetOf, worldOf, playedOf, foundBy, findAt, UnitMade};
 
 // Where numbers stand in `ask`.
 const BUDGET: usize = 0;
 
 const MODE: usize = 1;
 
+pub const FLOOR: usize = 2;
+
 const GROUP: usize = 4;
+
+pub const BASE: usize = 5;
+
+pub const WIDTH: usize = 6;
 
 // What is done with the finds: they are listed, or judged for the verdict.
 pub const LIST: u32 = 2;
@@ -54,15 +62,15 @@ fn number(v: u32) -> usize
 }
 
 // Number i of those asked.
-pub fn asked(ask: &[u32; 6], i: usize) -> usize
-    requires { ⌜ i < 6 ⌝ }
+pub fn asked(ask: &[u32; 7], i: usize) -> usize
+    requires { ⌜ i < 7 ⌝ }
     ensures { λ r. ⌜ r ≡ getD (now (ask .entry)) i 0 ⌝ }
 {
     number(ask[i])
 }
 
 // One unit, if the budget has it.
-pub fn unit(ask: &[u32; 6], counters: &mut [u64; 2]) -> bool
+pub fn unit(ask: &[u32; 7], counters: &mut [u64; 2]) -> bool
     requires { ⌜ length (now counters) ≡ 2 ⌝ }
     ensures { λ r. ⌜ UnitMade (now (ask .entry)) (now (counters .entry)) r (now (counters .exit)) ⌝ }
 {
@@ -87,25 +95,28 @@ fn port_at(file: &[u8], k: usize) -> u32
 
 // ---- the list
 
-// The words of a find: one, one for each entry, care (4) and value (4).
-fn words_of(d: usize) -> u64
+// The words of a find: one, one for each entry, care and value.
+fn words_of(w: usize, d: usize) -> u64
+    requires { ⌜ Width w ⌝ }
     requires { ⌜ d ≤ 16 ⌝ }
-    ensures { λ r. ⌜ r ≡ 25 - d ⌝ }
+    ensures { λ r. ⌜ r ≡ 17 - d + setWords w ⌝ }
 {
-    (1 + (PLACES - d) + 8) as u64
+    (1 + (PLACES - d) + 2 * w) as u64
 }
 
 // The words of a find are counted.
-fn count_find(d: usize, counters: &mut [u64; 2])
+fn count_find(w: usize, d: usize, counters: &mut [u64; 2])
+    requires { ⌜ Width w ⌝ }
     requires { ⌜ d ≤ 16 ⌝ }
     requires { ⌜ length (now counters) ≡ 2 ⌝ }
     ensures { λ _. ⌜ getD (now (counters .exit)) 0 0 ≡ getD (now (counters .entry)) 0 0 ⌝ }
-    ensures { λ _. ⌜ getD (now (counters .exit)) 1 0 ≡ countedOn (ltb (getD (now (counters .entry)) 1 0) tooMany) (getD (now (counters .entry)) 1 0) (25 - d) ⌝ }
+    ensures { λ _. ⌜ getD (now (counters .exit)) 1 0
+        ≡ countedOn (ltb (getD (now (counters .entry)) 1 0) tooMany) (getD (now (counters .entry)) 1 0) (17 - d + setWords w) ⌝ }
     ensures { λ _. ⌜ length (now (counters .exit)) ≡ 2 ⌝ }
 {
     let words = counters[1];
     if words < TOO_MANY {
-        counters[1] = words + words_of(d);
+        counters[1] = words + words_of(w, d);
     }
 }
 
@@ -123,27 +134,43 @@ fn put_entries(area: &mut [u8], at: usize, d: usize, path: &[u32; 16])
 }
 
 // Care and value at word `at` of the area and on.
-fn put_set(area: &mut [u8], at: usize, p: HeaderSet)
-    requires { ⌜ 4 * (at + 8) ≤ length (now area) ⌝ }
-    ensures { λ _. ⌜ now (area .exit) ≡ writtenAt at (p .care ++ p .value) (now (area .entry)) ⌝ }
+fn put_set(area: &mut [u8], at: usize, w: usize, p: WideSet)
+    requires { ⌜ Width w ⌝ }
+    requires { ⌜ 4 * (at + setWords w) ≤ length (now area) ⌝ }
+    ensures { λ _. ⌜ now (area .exit)
+        ≡ writtenAt at (narrowed w (wideOf p) .care ++ narrowed w (wideOf p) .value) (now (area .entry)) ⌝ }
 {
-    let care = p.care;
-    let value = p.value;
-    answer::put_words(area, at, &care);
-    answer::put_words(area, at + 4, &value);
+    let s = p.low;
+    let t = p.high;
+    let care = s.care;
+    let late_care = t.care;
+    let value = s.value;
+    let late_value = t.value;
+    let cares = WideHeader {
+        low: care,
+        high: late_care,
+    };
+    let values = WideHeader {
+        low: value,
+        high: late_value,
+    };
+    answer::put_header(area, at, w, cares);
+    answer::put_header(area, at + w, w, values);
 }
 
 // The words of the find p at a port, at word `at` of the area and on.
-fn put_find(area: &mut [u8], at: usize, port: u32, p: HeaderSet, d: usize, path: &[u32; 16])
+fn put_find(area: &mut [u8], at: usize, w: usize, port: u32, p: WideSet, d: usize, path: &[u32; 16])
+    requires { ⌜ Width w ⌝ }
     requires { ⌜ Path (now path) d ⌝ }
     requires { ⌜ port < 4096 ⌝ }
-    requires { ⌜ 4 * (at + (25 - d)) ≤ length (now area) ⌝ }
-    ensures { λ _. ⌜ now (area .exit) ≡ writtenAt at (findWords (record { port = port; path = drop d (now (path .entry)); set = setOf p })) (now (area .entry)) ⌝ }
+    requires { ⌜ 4 * (at + (17 - d + setWords w)) ≤ length (now area) ⌝ }
+    ensures { λ _. ⌜ now (area .exit) ≡ writtenAt at
+        (findWords (record { port = port; path = drop d (now (path .entry)); set = narrowed w (wideOf p) })) (now (area .entry)) ⌝ }
 {
     let hops = PLACES - d;
     answer::put_word(area, at, FIND + hops as u32 * HOP + port);
     put_entries(area, at + 1, d, path);
-    put_set(area, at + 1 + hops, p);
+    put_set(area, at + 1 + hops, w, p);
 }
 
 // The words of the find p at edge k, at word `at` of the area and on, if there is room for all of them.
@@ -151,17 +178,19 @@ fn put_fitting(
     file: &[u8],
     area: &mut [u8],
     at: u64,
+    w: usize,
     k: usize,
-    p: HeaderSet,
+    p: WideSet,
     d: usize,
     path: &[u32; 16],
 )
+    requires { ⌜ Width w ⌝ }
     requires { ⌜ HasEdge (now file) k ⌝ }
     requires { ⌜ Path (now path) d ⌝ }
-    ensures { λ _. ⌜ now (area .exit)
-        ≡ fittedAt at (findWords (findAt (now (file .entry)) k (now (path .entry)) d (setOf p))) (now (area .entry)) ⌝ }
+    ensures { λ _. ⌜ now (area .exit) ≡ fittedAt at
+        (findWords (narrowFind w (findAt (now (file .entry)) k (now (path .entry)) d (wideOf p)))) (now (area .entry)) ⌝ }
 {
-    let words = words_of(d);
+    let words = words_of(w, d);
     let room = (area.len() / 4) as u64;
     if room < words {
         return;
@@ -169,63 +198,46 @@ fn put_fitting(
     if room - words < at {
         return;
     }
-    put_find(area, at as usize, port_at(file, k), p, d, path);
+    put_find(area, at as usize, w, port_at(file, k), p, d, path);
 }
 
 // The find p at edge k, for the list: its words are written where there is room for them, and always counted.
 fn list_find(
     file: &[u8],
     area: &mut [u8],
+    w: usize,
     k: usize,
-    p: HeaderSet,
+    p: WideSet,
     d: usize,
     path: &[u32; 16],
     counters: &mut [u64; 2],
 )
+    requires { ⌜ Width w ⌝ }
     requires { ⌜ HasEdge (now file) k ⌝ }
     requires { ⌜ Path (now path) d ⌝ }
     requires { ⌜ length (now counters) ≡ 2 ⌝ }
     ensures { λ _. ⌜ playedOf 0 (now (counters .exit)) (now (area .exit))
-        ≡ listed (findAt (now (file .entry)) k (now (path .entry)) d (setOf p))
+        ≡ listed w (findAt (now (file .entry)) k (now (path .entry)) d (wideOf p))
         (worldOf (now (counters .entry)) (now (area .entry))) ⌝ }
     ensures { λ _. ⌜ length (now (counters .exit)) ≡ 2 ⌝ }
 {
-    put_fitting(file, area, counters[1], k, p, d, path);
-    count_find(d, counters);
+    put_fitting(file, area, counters[1], w, k, p, d, path);
+    count_find(w, d, counters);
 }
 
 // ---- the verdict
 
-// The first part of p carved by b, if there is one.
-fn first_part(p: HeaderSet, b: HeaderSet) -> MaybeSet
-    ensures { λ r. ⌜ r ≡ maybeOf (head? (carve 4 (setOf p) (setOf b))) ⌝ }
-{
-    if !p.overlaps(b) {
-        return MaybeSet { some: true, set: p };
-    }
-    let free = p.free(b);
-    if headers::none_set(free) {
-        return MaybeSet {
-            some: false,
-            set: HeaderSet::all_wild(),
-        };
-    }
-    MaybeSet {
-        some: true,
-        set: p.unlike(headers::first_bit(free), b),
-    }
-}
-
 // A part of the find p at an edge in which every packet is foreign to the group, if there is one: "in a foreign group" all of it,
 // "else .. the first part of the find carved by the admitted set".
-fn foreign_part(edge: &[u8], group: u32, p: HeaderSet) -> MaybeSet
-    requires { ⌜ length (now edge) ≡ 4 * edgeWords ⌝ }
-    ensures { λ r. ⌜ r ≡ maybeOf (cond (eqb (edgeGroup (now (edge .entry))) group) (head? (carve 4 (setOf p) (edgeAdmitted (now (edge .entry))))) (some (setOf p))) ⌝ }
+fn foreign_part(edge: &[u8], w: usize, group: u32, p: WideSet) -> MaybeWide
+    requires { ⌜ EdgeLong w (now edge) ⌝ }
+    ensures { λ r. ⌜ maybeWideOf r ≡ cond (eqb (edgeGroup (now (edge .entry))) group)
+        (head? (carve wideWords (wideOf p) (storedAt w (now (edge .entry)) admittedAt))) (some (wideOf p)) ⌝ }
 {
     if records::group(edge) == group {
-        first_part(p, records::admitted(edge))
+        carving::first_part(edge, ADMITTED, w, p)
     } else {
-        MaybeSet { some: true, set: p }
+        MaybeWide { some: true, set: p }
     }
 }
 
@@ -241,17 +253,27 @@ fn put_sixteen(area: &mut [u8], at: usize, d: usize, path: &[u32; 16])
     answer::put_words(area, at + (PLACES - d), &unused[..d]);
 }
 
-// The 24 words of a verdict that is reached by the lowest header of a set.
-fn put_reached(area: &mut [u8], units: u32, port: u32, d: usize, path: &[u32; 16], set: HeaderSet)
+// The words of a verdict that is reached by the lowest header of a set.
+fn put_reached(
+    area: &mut [u8],
+    w: usize,
+    units: u32,
+    port: u32,
+    d: usize,
+    path: &[u32; 16],
+    set: WideSet,
+)
+    requires { ⌜ Width w ⌝ }
     requires { ⌜ Path (now path) d ⌝ }
-    requires { ⌜ 96 ≤ length (now area) ⌝ }
-    ensures { λ _. ⌜ now (area .exit) ≡ writtenAt 0 (reachedWords units port (drop d (now (path .entry))) (lowest 4 (setOf set))) (now (area .entry)) ⌝ }
+    requires { ⌜ 4 * answerWords w ≤ length (now area) ⌝ }
+    ensures { λ _. ⌜ now (area .exit) ≡ writtenAt 0
+        (reachedWords units port (drop d (now (path .entry))) (take w (lowest wideWords (wideOf set)))) (now (area .entry)) ⌝ }
 {
     let hops = (PLACES - d) as u32;
     let header = set.lowest();
     answer::put_words(area, 0, &[1, units, port, hops]);
-    answer::put_words(area, 4, &header);
-    put_sixteen(area, 8, d, path);
+    answer::put_header(area, 4, w, header);
+    put_sixteen(area, 4 + w, d, path);
 }
 
 // The verdict stops at a find with a foreign packet. The words of `ask` come as a slice, which shows that each fits 32 bits: so does
@@ -261,7 +283,7 @@ fn judge(
     ask: &[u32],
     area: &mut [u8],
     k: usize,
-    p: HeaderSet,
+    p: WideSet,
     d: usize,
     path: &[u32; 16],
     counters: &[u64; 2],
@@ -269,19 +291,22 @@ fn judge(
     requires { ⌜ Asked (now file) (now ask) ⌝ }
     requires { ⌜ HasEdge (now file) k ⌝ }
     requires { ⌜ Path (now path) d ⌝ }
-    requires { ⌜ length (now ask) ≡ 6 ⌝ }
+    requires { ⌜ length (now ask) ≡ 7 ⌝ }
     requires { ⌜ getD (now counters) 0 0 ≤ budgetOf (now ask) ⌝ }
-    requires { ⌜ 96 ≤ length (now area) ⌝ }
-    ensures { λ r. ⌜ playedOf r (now (counters .entry)) (now (area .exit)) ≡ judged (fabricIn (now (file .entry))) (targetOf (now (ask .entry))) (findAt (now (file .entry)) k (now (path .entry)) d (setOf p)) (worldOf (now (counters .entry)) (now (area .entry))) ⌝ }
+    requires { ⌜ 4 * answerWords (widthIn (now file)) ≤ length (now area) ⌝ }
+    ensures { λ r. ⌜ playedOf r (now (counters .entry)) (now (area .exit))
+        ≡ judged (wideIn (now (file .entry))) (widthIn (now (file .entry))) (targetOf (now (ask .entry)))
+        (findAt (now (file .entry)) k (now (path .entry)) d (wideOf p)) (worldOf (now (counters .entry)) (now (area .entry))) ⌝ }
 {
     let edge = file::edge(file, k);
-    let foreign = foreign_part(edge, ask[GROUP], p);
+    let w = number(ask[WIDTH]);
+    let foreign = foreign_part(edge, w, ask[GROUP], p);
     if !foreign.some {
         return 0;
     }
     let set = foreign.set;
     let units = counters[0] as u32;
-    put_reached(area, units, port_at(file, k), d, path, set);
+    put_reached(area, w, units, port_at(file, k), d, path, set);
     2
 }
 
@@ -290,10 +315,10 @@ fn judge(
 // The find p at edge k, with the entries of the path from place d on. 0: the trace goes on, 2: the verdict stops.
 pub fn found(
     file: &[u8],
-    ask: &[u32; 6],
+    ask: &[u32; 7],
     area: &mut [u8],
     k: usize,
-    p: HeaderSet,
+    p: WideSet,
     d: usize,
     path: &[u32; 16],
     counters: &mut [u64; 2],
@@ -302,13 +327,14 @@ pub fn found(
     requires { ⌜ HasEdge (now file) k ⌝ }
     requires { ⌜ Path (now path) d ⌝ }
     requires { ⌜ Room (now ask) (now counters) (now area) ⌝ }
-    ensures { λ r. ⌜ playedOf r (now (counters .exit)) (now (area .exit)) ≡ foundBy (now (file .entry)) (now (ask .entry)) (findAt (now (file .entry)) k (now (path .entry)) d (setOf p)) (worldOf (now (counters .entry)) (now (area .entry))) ⌝ }
+    ensures { λ r. ⌜ playedOf r (now (counters .exit)) (now (area .exit)) ≡ foundBy (now (file .entry)) (now (ask .entry))
+        (findAt (now (file .entry)) k (now (path .entry)) d (wideOf p)) (worldOf (now (counters .entry)) (now (area .entry))) ⌝ }
     ensures { λ _. ⌜ length (now (counters .exit)) ≡ 2 ⌝ }
 {
     let mode = ask[MODE];
     if mode == JUDGE {
         return judge(file, ask, area, k, p, d, path, counters);
     }
-    list_find(file, area, k, p, d, path, counters);
+    list_find(file, area, asked(ask, WIDTH), k, p, d, path, counters);
     0
 }

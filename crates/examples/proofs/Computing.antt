@@ -13,6 +13,7 @@ use Rattle.headers.specs.Actions.{unacted}
 use Rattle.headers.specs.Carving.{partsAt, parts, carve}
 use Rattle.answer.specs.Answer.{Outcome, bytesOf, answered, sixteen}
 use Rattle.records.specs.Words.{wordAt, bytesFrom}
+use Rattle.records.specs.Records.{widthIn}
 use Rattle.questions.specs.Questions.{pick, accepted, records, passed, asked, sized, started}
 use Rattle.questions.specs.Questions.{inOrder, portsRight, setsTidy, linkFree, withinLimits}
 use Rattle.forwarding.specs.Fabric.{holds, beats, applied, undoes}
@@ -31,7 +32,7 @@ use Rattle.calls.specs.Run.{runCall}
 -- ---- to open a line is to open all that it names
 
 unfoldable pub computingFile : Unit {0}
-unfolding bytesOf accepted records passed asked inOrder portsRight setsTidy linkFree withinLimits sized started wordAt
+unfolding bytesOf accepted records passed asked inOrder portsRight setsTidy linkFree withinLimits sized started wordAt widthIn
 computingFile = tt
 
 unfoldable pub computingFabric : Unit {0}

@@ -6,23 +6,23 @@ use Rattle.calls.specs.List.{listCall}
 use Rattle.examples.specs.Examples.{F, listed, reachedThere, isolatedThere, Always, target2, budget1, target1, Table}
 use Rattle.examples.proofs.Computing.{computing, roomThen, enough}
 
-E2-by : Always 80 (listCall F target2) (answered listed)
+E2-by : Always 80 (listCall 4 F target2) (answered listed)
 unfolding computing roomThen
 E2-by area l = enough 80 0 listed area l
 
-E3-by : Always 96 (verdictCall F target2) (answered reachedThere)
+E3-by : Always 96 (verdictCall 4 F target2) (answered reachedThere)
 unfolding computing roomThen
 E3-by area l = enough 96 0 reachedThere area l
 
-E4-by : Always 96 (verdictCall F budget1) (refused 13 0)
+E4-by : Always 96 (verdictCall 4 F budget1) (refused 13 0)
 unfolding computing roomThen
 E4-by area l = enough 96 13 reachedThere area l
 
-E5-by : Always 96 (verdictCall F (target1 1)) (answered isolatedThere)
+E5-by : Always 96 (verdictCall 4 F (target1 1)) (answered isolatedThere)
 unfolding computing roomThen
 E5-by area l = enough 96 0 isolatedThere area l
 
-E6-by : Always 96 (verdictCall F (target1 16)) (answered isolatedThere)
+E6-by : Always 96 (verdictCall 4 F (target1 16)) (answered isolatedThere)
 unfolding computing roomThen
 E6-by area l = enough 96 0 isolatedThere area l
 

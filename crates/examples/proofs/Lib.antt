@@ -1,4 +1,4 @@
-mod Computing
+pub mod Computing
 pub mod Examples
 pub mod Richer
 pub mod Equals

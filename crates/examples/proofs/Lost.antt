@@ -24,7 +24,7 @@ use Rattle.examples.proofs.Computing.{computing, computingFile, computi
 abbrev F : Fabric
 F = fabricIn K
 
-K-read : accepted K ≡ Reads.Fabric (shape 2 2 4)
+K-read : accepted 4 K ≡ Reads.Fabric (shape 4 2 2 4)
 unfolding computingFile
 K-read = refl
 
@@ -37,7 +37,7 @@ answerOf : List Event → Query → List ℕ → Outcome
 answerOf es q area =
     orRefused
     (firstNo
-    (traceQuestions (listTarget F (q .port)) (q .limit) (q .asked)
+    (traceQuestions (F .words) (listTarget F (q .port)) (q .limit) (q .asked)
     ++ (13 asks leb (units es) (q .budget) ∷ 12 asks leb (4 * length (listWords (finds es))) (length area) ∷ [])))
     area (answered (listWords (finds es)) area)
 
@@ -46,29 +46,29 @@ lostThere : ℕ → List ℕ → List Event
 lostThere hops ports = flatMap (lostAt F (stop F hops) (tpDst 5)) ports
 
 by-ports : (hops budget : ℕ) (area : List ℕ)
-    → listCall K (lost (suc hops) budget) area ≡ answerOf (lostThere hops (1 ∷ 4 ∷ 6 ∷ 8 ∷ [])) (lost (suc hops) budget) area
+    → listCall 4 K (lost (suc hops) budget) area ≡ answerOf (lostThere hops (1 ∷ 4 ∷ 6 ∷ 8 ∷ [])) (lost (suc hops) budget) area
 unfolding listCall answerOf lostThere lostTrace
 by-ports hops budget area =
     ap (λ (r : Read). listAnswer K (lost (suc hops) budget) r area) K-read
     ∙ ap (λ (ports : List ℕ). answerOf (lostThere hops ports) (lost (suc hops) budget) area) in-ports
 
-all-lost : Always 116 (listCall K (lost 3 5)) (answered (atOnce ++ afterTwoHops ++ atTheOther))
+all-lost : Always 116 (listCall 4 K (lost 3 5)) (answered (atOnce ++ afterTwoHops ++ atTheOther))
 unfolding computingLost roomThen answerOf lostThere
 all-lost = λ area l. by-ports 2 5 area ∙ enough 116 0 _ area l
 
-budget-4 : Always 0 (listCall K (lost 3 4)) (refused 13 0)
+budget-4 : Always 0 (listCall 4 K (lost 3 4)) (refused 13 0)
 unfolding computingLost answerOf lostThere
 budget-4 = λ area l. by-ports 2 4 area ∙ refl
 
-limit-2 : Always 72 (listCall K (lost 2 4)) (answered (atOnce ++ atTheOther))
+limit-2 : Always 72 (listCall 4 K (lost 2 4)) (answered (atOnce ++ atTheOther))
 unfolding computingLost roomThen answerOf lostThere
 limit-2 = λ area l. by-ports 1 4 area ∙ enough 72 0 _ area l
 
-limit-1 : Always 72 (listCall K (lost 1 3)) (answered (atOnce ++ atTheOther))
+limit-1 : Always 72 (listCall 4 K (lost 1 3)) (answered (atOnce ++ atTheOther))
 unfolding computingLost roomThen answerOf lostThere
 limit-1 = λ area l. by-ports 0 3 area ∙ enough 72 0 _ area l
 
-limit-1-budget-2 : Always 0 (listCall K (lost 1 2)) (refused 13 0)
+limit-1-budget-2 : Always 0 (listCall 4 K (lost 1 2)) (refused 13 0)
 unfolding computingLost answerOf lostThere
 limit-1-budget-2 = λ area l. by-ports 0 2 area ∙ refl
 

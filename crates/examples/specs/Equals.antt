@@ -49,23 +49,23 @@ twoWays =
 
 pub record EqualsTable : Type 0 where
   pub H-words : length wordsOfH ≡ 111
-  pub H-accepted : accepted H ≡ Fabric (shape 2 1 5)
+  pub H-accepted : accepted 4 H ≡ Fabric (shape 4 2 1 5)
   -- reached under one choice only: entry 1 would drop the packet that entry 2 may take
-  pub one-choice : Always 96 (verdictCall H (leaving 3 2 0))
+  pub one-choice : Always 96 (verdictCall 4 H (leaving 3 2 0))
       (answered (1 ∷ 3 ∷ 1 ∷ 2 ∷ (header 0 0 2 0 ++ way (3 ∷ 2 ∷ []) 14)))
   -- what entry 0 takes none of the equals below it may take
-  pub below : Always 96 (verdictCall H (leaving 3 3 0)) (answered (0 ∷ 3 ∷ replicate 22 0))
-  pub listed : Always 84 (listCall H (leaving 4 2 6)) (answered twoWays)
-  pub budget-3 : Always 0 (listCall H (leaving 3 2 6)) (refused 13 0)
+  pub below : Always 96 (verdictCall 4 H (leaving 3 3 0)) (answered (0 ∷ 3 ∷ replicate 22 0))
+  pub listed : Always 84 (listCall 4 H (leaving 4 2 6)) (answered twoWays)
+  pub budget-3 : Always 0 (listCall 4 H (leaving 3 2 6)) (refused 13 0)
   -- the run of the packet that one-choice shows: tied behind the link, after entry 3
-  pub tied : Always 96 (runCall H (packet 1 2 (header 0 0 2 0))) (answered (4 ∷ 0 ∷ 4 ∷ 1 ∷ (header 0 0 2 0 ++ way (3 ∷ []) 15)))
+  pub tied : Always 96 (runCall 4 H (packet 1 2 (header 0 0 2 0))) (answered (4 ∷ 0 ∷ 4 ∷ 1 ∷ (header 0 0 2 0 ++ way (3 ∷ []) 15)))
   -- at the limit a link leads on, whatever stands there
-  pub at-the-limit : Always 96 (runCall H (packet 1 1 (header 0 0 2 0)))
+  pub at-the-limit : Always 96 (runCall 4 H (packet 1 1 (header 0 0 2 0)))
       (answered (3 ∷ 0 ∷ 4 ∷ 1 ∷ (header 0 0 2 0 ++ way (3 ∷ []) 15)))
   -- at the start, with both ways leading to port 2
-  pub tied-at-once : Always 96 (runCall H (packet 1 2 (header 0 0 0 6))) (answered (4 ∷ 0 ∷ 1 ∷ 0 ∷ (header 0 0 0 6 ++ way [] 16)))
+  pub tied-at-once : Always 96 (runCall 4 H (packet 1 2 (header 0 0 0 6))) (answered (4 ∷ 0 ∷ 1 ∷ 0 ∷ (header 0 0 0 6 ++ way [] 16)))
   -- the equals 1 and 2 are below entry 0, which drops it; and entry 2 alone holds the last
-  pub higher-drops : Always 96 (runCall H (packet 1 2 (header 0 0 3 0)))
+  pub higher-drops : Always 96 (runCall 4 H (packet 1 2 (header 0 0 3 0)))
       (answered (1 ∷ 0 ∷ 4 ∷ 2 ∷ (header 0 0 3 0 ++ way (3 ∷ 0 ∷ []) 14)))
-  pub one-holds : Always 96 (runCall H (packet 1 2 (header 0 0 0 0)))
+  pub one-holds : Always 96 (runCall 4 H (packet 1 2 (header 0 0 0 0)))
       (answered (0 ∷ 0 ∷ 2 ∷ 2 ∷ (header 0 0 0 0 ++ way (3 ∷ 2 ∷ []) 14)))

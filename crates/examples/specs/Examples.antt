@@ -91,21 +91,21 @@ oneEntry matches action = linked 0 0 (entryOf 0 1 2 matches action ∷ [])
 pub record Table : Type 0 where
   -- "Fabric F is accepted (E1), 56 words": two edges, no link, two entries
   pub E1-words : length wordsOfF ≡ 56
-  pub E1 : accepted F ≡ Fabric (shape 2 0 2)
+  pub E1 : accepted 4 F ≡ Fabric (shape 4 2 0 2)
   -- "E2: list, target 2, limit 1, budget 2, all wild prints, a line each: `ok 20` ..": 80 bytes
-  pub E2 : Always 80 (listCall F target2) (answered listed)
+  pub E2 : Always 80 (listCall 4 F target2) (answered listed)
   -- "E3: verdict there: reached, 2 units, port 1, 1 hop, header 0 0x0a000002 2 0, entry 1."
-  pub E3 : Always 96 (verdictCall F target2) (answered reachedThere)
+  pub E3 : Always 96 (verdictCall 4 F target2) (answered reachedThere)
   -- "E4: budget 1: 13.", of the list and of the verdict
-  pub E4-list : Always 0 (listCall F budget1) (refused 13 0)
-  pub E4-verdict : Always 96 (verdictCall F budget1) (refused 13 0)
+  pub E4-list : Always 0 (listCall 4 F budget1) (refused 13 0)
+  pub E4-verdict : Always 96 (verdictCall 4 F budget1) (refused 13 0)
   -- "E5: verdict, target 1, limit 1, budget 0, all wild: isolated, 0 units."
-  pub E5 : Always 96 (verdictCall F (target1 1)) (answered isolatedThere)
+  pub E5 : Always 96 (verdictCall 4 F (target1 1)) (answered isolatedThere)
   -- "E6: limit 17: 9; 16 passes."
-  pub E6-17 : Always 0 (verdictCall F (target1 17)) (refused 9 0)
-  pub E6-16 : Always 96 (verdictCall F (target1 16)) (answered isolatedThere)
+  pub E6-17 : Always 0 (verdictCall 4 F (target1 17)) (refused 9 0)
+  pub E6-16 : Always 96 (verdictCall 4 F (target1 16)) (answered isolatedThere)
   -- "E7: start and end alone are accepted."
-  pub E7 : accepted startAndEnd ≡ Fabric (shape 0 0 0)
+  pub E7 : accepted 4 startAndEnd ≡ Fabric (shape 4 0 0 0)
   -- "E8: rewriting tp_dst to 5 with an all-wild match, exit tp_dst 5: all wild."
   pub E8 : back (oneEntry (allWild 4) (setTpDst 5)) 0 (tpDst 5) ≡ some (allWild 4)
   -- "E9: exit tp_dst 6: empty."

@@ -58,32 +58,32 @@ afterTwoHops = 0x60002001 ∷ 0x70000000 ∷ 0x70000001 ∷ (header 0 0 0 1 ++ h
 
 pub record LostTable : Type 0 where
   pub K-words : length (wordsOfK 0x1001005e) ≡ 94
-  pub K-accepted : accepted K ≡ Fabric (shape 2 2 4)
-  pub newK-accepted : accepted newK ≡ Fabric (shape 2 2 4)
+  pub K-accepted : accepted 4 K ≡ Fabric (shape 4 2 2 4)
+  pub newK-accepted : accepted 4 newK ≡ Fabric (shape 4 2 2 4)
   -- the link's end 6 comes before the edge port 8
-  pub all-lost : Always 116 (listCall K (lost 3 5)) (answered (atOnce ++ afterTwoHops ++ atTheOther))
-  pub budget-4 : Always 0 (listCall K (lost 3 4)) (refused 13 0)
+  pub all-lost : Always 116 (listCall 4 K (lost 3 5)) (answered (atOnce ++ afterTwoHops ++ atTheOther))
+  pub budget-4 : Always 0 (listCall 4 K (lost 3 4)) (refused 13 0)
   -- fewer hops than the limit: with limit 2 the trace ends at port 4, with limit 1 at the link ends, which are carved all the same
-  pub limit-2 : Always 72 (listCall K (lost 2 4)) (answered (atOnce ++ atTheOther))
-  pub limit-1 : Always 72 (listCall K (lost 1 3)) (answered (atOnce ++ atTheOther))
-  pub limit-1-budget-2 : Always 0 (listCall K (lost 1 2)) (refused 13 0)
+  pub limit-2 : Always 72 (listCall 4 K (lost 2 4)) (answered (atOnce ++ atTheOther))
+  pub limit-1 : Always 72 (listCall 4 K (lost 1 3)) (answered (atOnce ++ atTheOther))
+  pub limit-1-budget-2 : Always 0 (listCall 4 K (lost 1 2)) (refused 13 0)
   -- target 0 for a verdict, and under 1.3
-  pub verdict-refused : Always 0 (verdictCall K (lost 3 5)) (refused 8 0)
-  pub list-refused : Always 0 (listCall newK (lost 3 5)) (refused 8 0)
+  pub verdict-refused : Always 0 (verdictCall 4 K (lost 3 5)) (refused 8 0)
+  pub list-refused : Always 0 (listCall 4 newK (lost 3 5)) (refused 8 0)
   -- the runs of packets of these finds: lost at once, after two hops, and, with an odd nw_src, tied, for one choice loses it
-  pub lost-at-once : Always 96 (runCall K (packet 1 3 (header 0 0 5 0)))
+  pub lost-at-once : Always 96 (runCall 4 K (packet 1 3 (header 0 0 5 0)))
       (answered (2 ∷ 0 ∷ 1 ∷ 0 ∷ (header 0 0 5 0 ++ way [] 16)))
-  pub lost-at-6 : Always 96 (runCall K (packet 1 3 (header 0 0 22 1)))
+  pub lost-at-6 : Always 96 (runCall 4 K (packet 1 3 (header 0 0 22 1)))
       (answered (2 ∷ 0 ∷ 6 ∷ 2 ∷ (header 0 0 5 1 ++ way (0 ∷ 1 ∷ []) 14)))
-  pub tied-at-4 : Always 96 (runCall K (packet 1 3 (header 1 0 22 1)))
+  pub tied-at-4 : Always 96 (runCall 4 K (packet 1 3 (header 1 0 22 1)))
       (answered (4 ∷ 0 ∷ 4 ∷ 1 ∷ (header 1 0 5 1 ++ way (0 ∷ []) 15)))
   -- under 1.3 they are dropped, at the same in-ports and after as many hops, and at the limit they travel
-  pub dropped-at-once : Always 96 (runCall newK (packet 1 3 (header 0 0 5 0)))
+  pub dropped-at-once : Always 96 (runCall 4 newK (packet 1 3 (header 0 0 5 0)))
       (answered (1 ∷ 0 ∷ 1 ∷ 0 ∷ (header 0 0 5 0 ++ way [] 16)))
-  pub dropped-at-6 : Always 96 (runCall newK (packet 1 3 (header 0 0 22 1)))
+  pub dropped-at-6 : Always 96 (runCall 4 newK (packet 1 3 (header 0 0 22 1)))
       (answered (1 ∷ 0 ∷ 6 ∷ 2 ∷ (header 0 0 5 1 ++ way (0 ∷ 1 ∷ []) 14)))
-  pub travelling-to-6 : Always 96 (runCall newK (packet 1 2 (header 0 0 22 1)))
+  pub travelling-to-6 : Always 96 (runCall 4 newK (packet 1 2 (header 0 0 22 1)))
       (answered (3 ∷ 0 ∷ 6 ∷ 2 ∷ (header 0 0 5 1 ++ way (0 ∷ 1 ∷ []) 14)))
   -- and a verdict is what it was
-  pub reached-the-same : Always 96 (verdictCall newK (query 8 2 3 (tpDst 5)))
+  pub reached-the-same : Always 96 (verdictCall 4 newK (query 8 2 3 (tpDst 5)))
       (answered (1 ∷ 2 ∷ 1 ∷ 2 ∷ (header 1 0 0 1 ++ way (0 ∷ 2 ∷ []) 14)))

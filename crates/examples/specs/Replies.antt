@@ -49,26 +49,26 @@ bothReplies =
 
 pub record RepliesTable : Type 0 where
   pub J-words : length (wordsOfJ 0x20000000) ≡ 93
-  pub J-accepted : accepted J ≡ Fabric (shape 2 1 4)
+  pub J-accepted : accepted 4 J ≡ Fabric (shape 4 2 1 4)
   -- from 10.0.0.7 to 10.0.0.2: not by the copy, whose wants disagree, but by the swap
-  pub swapped-back : Always 96 (verdictCall J (replies 5 0x0a000007 0x0a000002 0))
+  pub swapped-back : Always 96 (verdictCall 4 J (replies 5 0x0a000007 0x0a000002 0))
       (answered (1 ∷ 5 ∷ 1 ∷ 2 ∷ (header 0x0a000000 0x0a000007 0 0 ++ way (2 ∷ 3 ∷ []) 14)))
   -- and with an odd nw_proto not by the swap either, since entry 1 takes it
-  pub neither : Always 96 (verdictCall J (replies 5 0x0a000007 0x0a000002 1)) (answered (0 ∷ 5 ∷ replicate 22 0))
-  pub listed : Always 84 (listCall J (replies 6 0x0a000002 0x0a000002 0)) (answered bothReplies)
-  pub budget-5 : Always 0 (listCall J (replies 5 0x0a000002 0x0a000002 0)) (refused 13 0)
+  pub neither : Always 96 (verdictCall 4 J (replies 5 0x0a000007 0x0a000002 1)) (answered (0 ∷ 5 ∷ replicate 22 0))
+  pub listed : Always 84 (listCall 4 J (replies 6 0x0a000002 0x0a000002 0)) (answered bothReplies)
+  pub budget-5 : Always 0 (listCall 4 J (replies 5 0x0a000002 0x0a000002 0)) (refused 13 0)
   -- the run of the packet that swapped-back shows: swapped, and then the last byte of the new nw_dst written
-  pub swaps : Always 96 (runCall J (packet 1 2 (header 0x0a000000 0x0a000007 0 0)))
+  pub swaps : Always 96 (runCall 4 J (packet 1 2 (header 0x0a000000 0x0a000007 0 0)))
       (answered (0 ∷ 0 ∷ 2 ∷ 2 ∷ (header 0x0a000007 0x0a000002 0 0 ++ way (2 ∷ 3 ∷ []) 14)))
-  pub at-the-limit : Always 96 (runCall J (packet 1 1 (header 0x0a000000 0x0a000007 0 0)))
+  pub at-the-limit : Always 96 (runCall 4 J (packet 1 1 (header 0x0a000000 0x0a000007 0 0)))
       (answered (3 ∷ 0 ∷ 4 ∷ 1 ∷ (header 0x0a000007 0x0a000002 0 0 ++ way (2 ∷ []) 15)))
-  pub copies : Always 96 (runCall J (packet 1 2 (header 0x0a000001 0x0a000007 0 1)))
+  pub copies : Always 96 (runCall 4 J (packet 1 2 (header 0x0a000001 0x0a000007 0 1)))
       (answered (0 ∷ 0 ∷ 2 ∷ 1 ∷ (header 0x0a000001 0x0a000001 0 1 ++ way (1 ∷ []) 15)))
   -- a drop entry swaps too, and the run's header shows it
-  pub swaps-and-drops : Always 96 (runCall J (packet 1 2 (header 0x0a000001 0x0a000007 1 0)))
+  pub swaps-and-drops : Always 96 (runCall 4 J (packet 1 2 (header 0x0a000001 0x0a000007 1 0)))
       (answered (1 ∷ 0 ∷ 1 ∷ 1 ∷ (header 0x0a000007 0x0a000001 1 0 ++ way (0 ∷ []) 15)))
   -- transfer 3, and the zero bits below a transfer, at entry 0's first word
-  pub transfer-3 : accepted (bytesOf (wordsOfJ 0x30000000)) ≡ No 3 20
-  pub zero-bit-27 : accepted (bytesOf (wordsOfJ 0x28000000)) ≡ No 3 20
-  pub zero-bit-12 : accepted (bytesOf (wordsOfJ 0x20001000)) ≡ No 3 20
-  pub refused-3 : Always 0 (verdictCall (bytesOf (wordsOfJ 0x30000000)) (replies 5 0x0a000007 0x0a000002 0)) (refused 3 20)
+  pub transfer-3 : accepted 4 (bytesOf (wordsOfJ 0x30000000)) ≡ No 3 20
+  pub zero-bit-27 : accepted 4 (bytesOf (wordsOfJ 0x28000000)) ≡ No 3 20
+  pub zero-bit-12 : accepted 4 (bytesOf (wordsOfJ 0x20001000)) ≡ No 3 20
+  pub refused-3 : Always 0 (verdictCall 4 (bytesOf (wordsOfJ 0x30000000)) (replies 5 0x0a000007 0x0a000002 0)) (refused 3 20)

@@ -90,57 +90,57 @@ listedFinds =
 -- X16, and X19 for the verdict
 pub record Verdicts : Type 0 where
   -- within three hops the first find is foreign by its group: reached after 5 units from port 12 by entries 5, 4 and 2
-  pub three-hops : Always 96 (verdictCall G (all 3 5))
+  pub three-hops : Always 96 (verdictCall 4 G (all 3 5))
       (answered (1 ∷ 5 ∷ 12 ∷ 3 ∷ (header 0 0x0a000002 6 6 ++ way (5 ∷ 4 ∷ 2 ∷ []) 13)))
   -- within two it is port 9's, in the target's own group: the lowest header of the first part outside its admitted set
-  pub two-hops : Always 96 (verdictCall G (all 2 7)) (answered (1 ∷ 7 ∷ 9 ∷ 1 ∷ (header 0 0 0 0x10 ++ way (3 ∷ []) 15)))
-  pub budget-6 : Always 96 (verdictCall G (all 2 6)) (refused 13 0)
+  pub two-hops : Always 96 (verdictCall 4 G (all 2 7)) (answered (1 ∷ 7 ∷ 9 ∷ 1 ∷ (header 0 0 0 0x10 ++ way (3 ∷ []) 15)))
+  pub budget-6 : Always 96 (verdictCall 4 G (all 2 6)) (refused 13 0)
   -- what port 9 sends there within its admitted set is not foreign
-  pub own-traffic : Always 96 (verdictCall G (some 3 13)) (answered (0 ∷ 13 ∷ replicate 22 0))
-  pub one-hop : Always 96 (verdictCall G (some 1 5)) (answered (0 ∷ 5 ∷ replicate 22 0))
+  pub own-traffic : Always 96 (verdictCall 4 G (some 3 13)) (answered (0 ∷ 13 ∷ replicate 22 0))
+  pub one-hop : Always 96 (verdictCall 4 G (some 1 5)) (answered (0 ∷ 5 ∷ replicate 22 0))
   -- two questions would get a no, and the first of them is answered: 8 before 9, 9 before 10, 10 before 12, 12 before 13
-  pub in-turn-8 : Always 0 (verdictCall G (query 6 0 0 (allWild 4))) (refused 8 0)
-  pub in-turn-9 : Always 0 (verdictCall G (query 5 0 0 untidy)) (refused 9 0)
-  pub in-turn-10 : Short 96 (verdictCall G (query 5 1 0 untidy)) (refused 10 0)
-  pub in-turn-12 : Short 96 (verdictCall G (all 3 4)) (refused 12 0)
+  pub in-turn-8 : Always 0 (verdictCall 4 G (query 6 0 0 (allWild 4))) (refused 8 0)
+  pub in-turn-9 : Always 0 (verdictCall 4 G (query 5 0 0 untidy)) (refused 9 0)
+  pub in-turn-10 : Short 96 (verdictCall 4 G (query 5 1 0 untidy)) (refused 10 0)
+  pub in-turn-12 : Short 96 (verdictCall 4 G (all 3 4)) (refused 12 0)
 
 -- X17, and X19 for the list
 pub record Lists : Type 0 where
   -- 13 units, 58 words
-  pub all-finds : Always 232 (listCall G (all 3 13)) (answered listedFinds)
-  pub budget-12 : Always 0 (listCall G (all 3 12)) (refused 13 0)
+  pub all-finds : Always 232 (listCall 4 G (all 3 13)) (answered listedFinds)
+  pub budget-12 : Always 0 (listCall 4 G (all 3 12)) (refused 13 0)
   -- no entry sends to port 12
-  pub no-finds : Always 0 (listCall G (query 12 16 0 (allWild 4))) (answered [])
+  pub no-finds : Always 0 (listCall 4 G (query 12 16 0 (allWild 4))) (answered [])
   -- 8 before 9, 9 before 10, 10 before 13, 13 before 12
-  pub in-turn-8 : Always 0 (listCall G (query 6 0 0 (allWild 4))) (refused 8 0)
-  pub in-turn-9 : Always 0 (listCall G (query 5 17 0 untidy)) (refused 9 0)
-  pub in-turn-10 : Always 0 (listCall G (query 5 1 0 untidy)) (refused 10 0)
-  pub in-turn-13 : Short 232 (listCall G (all 3 12)) (refused 13 0)
-  pub in-turn-12 : Short 232 (listCall G (all 3 13)) (refused 12 0)
+  pub in-turn-8 : Always 0 (listCall 4 G (query 6 0 0 (allWild 4))) (refused 8 0)
+  pub in-turn-9 : Always 0 (listCall 4 G (query 5 17 0 untidy)) (refused 9 0)
+  pub in-turn-10 : Always 0 (listCall 4 G (query 5 1 0 untidy)) (refused 10 0)
+  pub in-turn-13 : Short 232 (listCall 4 G (all 3 12)) (refused 13 0)
+  pub in-turn-12 : Short 232 (listCall 4 G (all 3 13)) (refused 12 0)
 
 -- X18, and X19 for the run
 pub record Runs : Type 0 where
   -- left at 5; dropped by entry 1, which beats 2; lost at 21; still travelling to 31
-  pub left : Always 96 (runCall G (packet 12 3 (header 7 0x0a000002 6 6)))
+  pub left : Always 96 (runCall 4 G (packet 12 3 (header 7 0x0a000002 6 6)))
       (answered (0 ∷ 0 ∷ 5 ∷ 3 ∷ (header 7 0x0a000009 6 6 ++ way (5 ∷ 4 ∷ 2 ∷ []) 13)))
-  pub dropped : Always 96 (runCall G (packet 12 3 (header 7 0x0a000002 2 6)))
+  pub dropped : Always 96 (runCall 4 G (packet 12 3 (header 7 0x0a000002 2 6)))
       (answered (1 ∷ 0 ∷ 31 ∷ 3 ∷ (header 7 0x0a000009 2 6 ++ way (5 ∷ 4 ∷ 1 ∷ []) 13)))
-  pub lost : Always 96 (runCall G (packet 12 3 (header 7 1 6 6)))
+  pub lost : Always 96 (runCall 4 G (packet 12 3 (header 7 1 6 6)))
       (answered (2 ∷ 0 ∷ 21 ∷ 1 ∷ (header 7 1 6 6 ++ way (5 ∷ []) 15)))
-  pub travelling : Always 96 (runCall G (packet 12 2 (header 7 0x0a000002 6 6)))
+  pub travelling : Always 96 (runCall 4 G (packet 12 2 (header 7 0x0a000002 6 6)))
       (answered (3 ∷ 0 ∷ 31 ∷ 2 ∷ (header 7 0x0a000009 6 6 ++ way (5 ∷ 4 ∷ []) 14)))
   -- of two entries that hold the packet the one of the higher priority takes it
-  pub higher : Always 96 (runCall G (packet 9 3 (header 0 0 0 0x10)))
+  pub higher : Always 96 (runCall 4 G (packet 9 3 (header 0 0 0 0x10)))
       (answered (0 ∷ 0 ∷ 5 ∷ 1 ∷ (header 0 0 0 0x10 ++ way (3 ∷ []) 15)))
   -- 9 before 10, 10 before 11, 11 before 12
-  pub in-turn-9 : Always 0 (runCall G (query 9 0 0 untidy)) (refused 9 0)
-  pub in-turn-10 : Always 0 (runCall G (query 6 1 0 allButTheLast)) (refused 10 0)
-  pub in-turn-11 : Short 96 (runCall G (packet 6 1 (header 0 0 0 0))) (refused 11 0)
-  pub in-turn-12 : Short 96 (runCall G (packet 9 1 (header 0 0 0 0))) (refused 12 0)
+  pub in-turn-9 : Always 0 (runCall 4 G (query 9 0 0 untidy)) (refused 9 0)
+  pub in-turn-10 : Always 0 (runCall 4 G (query 6 1 0 allButTheLast)) (refused 10 0)
+  pub in-turn-11 : Short 96 (runCall 4 G (packet 6 1 (header 0 0 0 0))) (refused 11 0)
+  pub in-turn-12 : Short 96 (runCall 4 G (packet 9 1 (header 0 0 0 0))) (refused 12 0)
 
 pub record RicherTable : Type 0 where
   pub G-words : length wordsOfG ≡ 157
-  pub G-accepted : accepted G ≡ Fabric (shape 3 2 7)
+  pub G-accepted : accepted 4 G ≡ Fabric (shape 4 3 2 7)
   pub verdicts : Verdicts
   pub lists : Lists
   pub runs : Runs

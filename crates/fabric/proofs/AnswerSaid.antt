@@ -1,5 +1,5 @@
--- What the 24 words of an answer say, a verdict's or a run's, read back from the area: two words, the port, the hops, the header, and the
--- entries in travelling order.
+-- What the words of an answer say, 24 or 28, a verdict's or a run's, read back from the area: two words, the port, the hops, the header,
+-- and the entries in travelling order.
 use mathlib.Core.List.{List, [], _∷_, _++_}
 use mathlib.Core.Path.{_≡_, refl, ap, _∙_}
 use Prim.Native.Nat.{ℕ, zero, suc, _+_, _-_, _*_, _^_, _≤_, _<_}
@@ -8,11 +8,9 @@ use lib.ListN.{length, take, drop, replicate, length-append, List·getD-append}
 use lib.Seq.{getD-append-add}
 use Rattle.headers.specs.Bits.{Words, word}
 use Rattle.headers.specs.Sets.{Header}
-use Rattle.answer.specs.Answer.{Outcome, answered, sixteen}
+use Rattle.answer.specs.Answer.{answerWords, Outcome, answered, sixteen}
 use Rattle.answer.proofs.Sixteen.{sixteen-long, sixteen-used, sixteen-unused}
 use Rattle.records.specs.Words.{wordAt, wordsFrom}
-use Rattle.records.specs.Records.{headerWords}
-use Rattle.calls.specs.Questions.{answerWords}
 use Rattle.fabric.specs.Demands.{wordsWritten, said, portSaid, hopsSaid, headerSaid, entriesSaid}
 use Rattle.fabric.proofs.Said.{Fit, fit-append, fit-words, words-read, word-back}
 
@@ -35,13 +33,13 @@ pub said-word : (ws area : List ℕ) → Fit ws → (k : ℕ) → k < length ws 
 unfolding answered
 said-word ws area fit k l = word-back ws (drop (4 * length ws) area) fit k l
 
--- ---- the 24 words
+-- ---- the words of an answer, of headers of n words
 
 abbrev pub filledBy : ℕ → ℕ → ℕ → List ℕ → Header → List ℕ
 filledBy a b p path h = a ∷ b ∷ p ∷ length path ∷ (h ++ sixteen path)
 
-module _ (a b p : ℕ) (path : List ℕ) (h : Header) (area : List ℕ) (first : a < 2 ^ 32) (second : b < 2 ^ 32) (port : p < 2 ^ 32)
-    (short : length path ≤ 16) (entries : Fit path) (header : Words headerWords h) where
+module _ (n a b p : ℕ) (path : List ℕ) (h : Header) (area : List ℕ) (first : a < 2 ^ 32) (second : b < 2 ^ 32) (port : p < 2 ^ 32)
+    (short : length path ≤ 16) (entries : Fit path) (header : Words n h) where
   abbrev o : Outcome
   o = answered (filledBy a b p path h) area
 
@@ -54,16 +52,16 @@ module _ (a b p : ℕ) (path : List ℕ) (h : Header) (area : List ℕ) (first :
         port,
         (
           omega arith,
-          fit-append h (sixteen path) (fit-words headerWords h header) (fit-sixteen path entries),
+          fit-append h (sixteen path) (fit-words n h header) (fit-sixteen path entries),
         ),
       ),
     ),
   )
 
-  answer-long : length (filledBy a b p path h) ≡ answerWords
+  answer-long : length (filledBy a b p path h) ≡ answerWords n
   answer-long = omega (arith, length-append h (sixteen path), sixteen-long path, header .long)
 
-  answer-word : (k : ℕ) → k < answerWords → said o k ≡ word (filledBy a b p path h) k
+  answer-word : (k : ℕ) → k < answerWords n → said o k ≡ word (filledBy a b p path h) k
   answer-word k l = said-word (filledBy a b p path h) area answer-fit k (omega (arith, answer-long))
 
   first-said : said o 0 ≡ a
@@ -79,54 +77,54 @@ module _ (a b p : ℕ) (path : List ℕ) (h : Header) (area : List ℕ) (first :
   hops-said = answer-word 3 (omega arith)
 
   -- the words after the first four: the header, then the entries
-  later-word : (k : ℕ) → 4 + k < answerWords → said o (4 + k) ≡ word (h ++ sixteen path) k
+  later-word : (k : ℕ) → 4 + k < answerWords n → said o (4 + k) ≡ word (h ++ sixteen path) k
   later-word k l =
       let e : 4 + k ≡ suc (suc (suc (suc k))) = omega arith in
       answer-word (4 + k) l ∙ ap (word (filledBy a b p path h)) e
 
-  header-said : headerSaid o ≡ h
-  header-said = words-read headerWords _ h (header .long)
+  header-said : headerSaid o n ≡ h
+  header-said = words-read n _ h (header .long)
       (λ w l. later-word w (omega arith) ∙ List·getD-append h (sixteen path) 0 w (omega (arith, header .long)))
 
-  place-word : (k : ℕ) → k < 16 → said o (4 + headerWords + k) ≡ word (sixteen path) k
+  place-word : (k : ℕ) → k < 16 → said o (4 + n + k) ≡ word (sixteen path) k
   place-word k l =
-      ap (wordAt (o .area)) (let e : 4 + headerWords + k ≡ 4 + (length h + k) = omega (arith, header .long) in e)
+      ap (wordAt (o .area)) (let e : 4 + n + k ≡ 4 + (length h + k) = omega (arith, header .long) in e)
       ∙ later-word (length h + k) (omega (arith, header .long))
       ∙ getD-append-add h (sixteen path) k 0
 
-  entries-said : entriesSaid o ≡ path
+  entries-said : entriesSaid o n ≡ path
   entries-said =
-      ap (λ (n : ℕ). wordsFrom n (o .area) (4 + headerWords)) hops-said
+      ap (λ (m : ℕ). wordsFrom m (o .area) (4 + n)) hops-said
       ∙ words-read (length path) _ path refl (λ k l. place-word k (omega arith) ∙ sixteen-used path k l (omega arith))
 
-  rest-said : (k : ℕ) → 4 + headerWords + length path ≤ k → k < answerWords → said o k ≡ 0
+  rest-said : (k : ℕ) → 4 + n + length path ≤ k → k < answerWords n → said o k ≡ 0
   rest-said k l m =
-      let at : ℕ = k - (4 + headerWords) in
-      ap (wordAt (o .area)) (let e : k ≡ 4 + headerWords + at = omega arith in e)
+      let at : ℕ = k - (4 + n) in
+      ap (wordAt (o .area)) (let e : k ≡ 4 + n + at = omega arith in e)
       ∙ place-word at (omega arith)
       ∙ sixteen-unused path at (omega arith) (omega arith)
 
 -- all of it at once
-pub record Says (a b p : ℕ) (path : List ℕ) (h : Header) (o : Outcome) : Type 0 where
-  pub fills : wordsWritten o ≡ answerWords
+pub record Says (n a b p : ℕ) (path : List ℕ) (h : Header) (o : Outcome) : Type 0 where
+  pub fills : wordsWritten o ≡ answerWords n
   pub first : said o 0 ≡ a
   pub second : said o 1 ≡ b
   pub port : portSaid o ≡ p
   pub hops : hopsSaid o ≡ length path
-  pub header : headerSaid o ≡ h
-  pub entries : entriesSaid o ≡ path
-  pub rest : (k : ℕ) → 4 + headerWords + length path ≤ k → k < answerWords → said o k ≡ 0
+  pub header : headerSaid o n ≡ h
+  pub entries : entriesSaid o n ≡ path
+  pub rest : (k : ℕ) → 4 + n + length path ≤ k → k < answerWords n → said o k ≡ 0
 
-pub answer-says : (a b p : ℕ) (path : List ℕ) (h : Header) (area : List ℕ) → a < 2 ^ 32 → b < 2 ^ 32 → p < 2 ^ 32
-    → length path ≤ 16 → Fit path → Words headerWords h → Says a b p path h (answered (filledBy a b p path h) area)
+pub answer-says : (n a b p : ℕ) (path : List ℕ) (h : Header) (area : List ℕ) → a < 2 ^ 32 → b < 2 ^ 32 → p < 2 ^ 32
+    → length path ≤ 16 → Fit path → Words n h → Says n a b p path h (answered (filledBy a b p path h) area)
 unfolding answered
-answer-says a b p path h area first second port short entries header = record {
-  fills = omega (arith, answer-long a b p path h area first second port short entries header);
-  first = first-said a b p path h area first second port short entries header;
-  second = second-said a b p path h area first second port short entries header;
-  port = port-said a b p path h area first second port short entries header;
-  hops = hops-said a b p path h area first second port short entries header;
-  header = header-said a b p path h area first second port short entries header;
-  entries = entries-said a b p path h area first second port short entries header;
-  rest = rest-said a b p path h area first second port short entries header;
+answer-says n a b p path h area first second port short entries header = record {
+  fills = omega (arith, answer-long n a b p path h area first second port short entries header);
+  first = first-said n a b p path h area first second port short entries header;
+  second = second-said n a b p path h area first second port short entries header;
+  port = port-said n a b p path h area first second port short entries header;
+  hops = hops-said n a b p path h area first second port short entries header;
+  header = header-said n a b p path h area first second port short entries header;
+  entries = entries-said n a b p path h area first second port short entries header;
+  rest = rest-said n a b p path h area first second port short entries header;
 }

@@ -11,14 +11,17 @@ use borrow.Author.Tests.{ne-eqb, leb-true}
 use lib.ListN.{length, drop}
 use Rattle.headers.specs.Bits.{Words}
 use Rattle.headers.specs.Sets.{Header, contains, WellFormed, lowest}
+use Rattle.headers.proofs.Booleans.{and-fst}
 use Rattle.headers.proofs.Members.{lowest-member, lowest-fits}
 use Rattle.answer.specs.Answer.{Outcome, refused, answered, bytesOf}
 use Rattle.records.specs.Words.{wordsFrom}
-use Rattle.records.specs.Records.{headerWords}
 use Rattle.records.specs.declared.Shape.{Shape}
-use Rattle.questions.specs.Questions.{accepted}
+use Rattle.questions.specs.Questions.{clean, accepted}
 use Rattle.questions.specs.declared.Read.{Read}
+use Rattle.questions.specs.declared.Read.the-variants as Reads
 use Rattle.file.specs.Accepted.{Accepted}
+use Rattle.file.proofs.Accepted.{accepted-own}
+use Rattle.file.proofs.Sound.{accepted-width}
 use Rattle.forwarding.specs.Fabric.{Fabric, Sound}
 use Rattle.forwarding.specs.Choices.{IsListed}
 use Rattle.forwarding.specs.Trace.{Find, listTrace, units, finds}
@@ -32,10 +35,11 @@ use Rattle.forwarding.proofs.Arrivals as arrivals
 use Rattle.forwarding.proofs.Losses as losses
 use Rattle.forwarding.proofs.Stops as stops
 use Rattle.forwarding.proofs.Verdicts as verdicts
-use Rattle.model.specs.Model.{fabricOf, fabricIn}
+use Rattle.model.specs.Model.{fabricIn}
+use Rattle.model.proofs.EntryRead.{words-are}
 use Rattle.model.proofs.Soundness.{fabric-sound}
 use Rattle.events.specs.Play.{reachedWords}
-use Rattle.queries.specs.Queries.{askedTidy, listTarget}
+use Rattle.queries.specs.Queries.{listTarget}
 use Rattle.calls.specs.Questions.{Query, orRefused}
 use Rattle.calls.specs.Verdict.{traceAsked, verdictAsked, verdictWords}
 use Rattle.calls.specs.List.{listAsked, wordsAsked}
@@ -63,15 +67,15 @@ no-said number area done d = rw (ne-eqb number 0 d)
 done-then : (number : ℕ) (area : List ℕ) (done : Outcome) → number ≡ 0 → orRefused number area done ≡ done
 done-then number area done e = rw e
 
-pub demand-1 : (c : Call) (f : List ℕ) (q : Query) (area : List ℕ) → Demand1 c f q area
-demand-1 c f q area = record {
+pub demand-1 : (c : Call) (w : ℕ) (f : List ℕ) (q : Query) (area : List ℕ) → Demand1 c w f q area
+demand-1 c w f q area = record {
   file-refused = λ number place e. read e;
   query-refused = λ s ok d. read ok ∙ no-said _ area _ d;
   all-answered = λ s ok e. read ok ∙ done-then _ area _ e;
 }
   where
-    read : {r : Read} → accepted f ≡ r → callOf c f q area ≡ answerOf c f q r area
-    read e = sym (call-answers c f q area) ∙ ap (λ (r : Read). answerOf c f q r area) e
+    read : {r : Read} → accepted w f ≡ r → callOf c w f q area ≡ answerOf c f q r area
+    read e = sym (call-answers c w f q area) ∙ ap (λ (r : Read). answerOf c f q r area) e
 
 -- ---- demand 2
 
@@ -92,30 +96,29 @@ module _ (f : List ℕ) (s : Shape) (ok : Accepted f s) (q : Query) where
       → All (λ e. e < n) path
   entries-low {p} {path} {h} n l c = all-below (F .entries) n (omega (arith, entries-few f s ok)) path (way-entries F p h c)
 
-  module _ (edge : F .isEdge (q .port) ≡ true) (wa : WellFormed headerWords (q .asked)) (limit : q .limit ≤ 16)
+  module _ (edge : F .isEdge (q .port) ≡ true) (wa : WellFormed (F .words) (q .asked)) (limit : q .limit ≤ 16)
       (budget : q .budget < 2 ^ 32) where
     -- ---- the verdict
 
     module _ (area : List ℕ) where
       abbrev told : Verdict → Outcome
-      told v = answered (verdictWords v) area
+      told v = answered (verdictWords (F .words) v) area
 
       exactly : isIsolated (verdictAsked F q) ≡ true ↔ NoLeak F (q .limit) (q .port) (q .asked)
-      unfolding fabricIn fabricOf
       exactly = verdicts.isolated-exactly F sound (q .limit) (q .port) (q .asked) edge wa
 
       says-isolated : (u : ℕ) → verdictAsked F q ≡ isolated u → u ≤ q .budget → VerdictSays F q (told (isolated u))
       unfolding isIsolated answered
       says-isolated u e l =
           let low : u < 2 ^ 32 = omega arith in
-          let zero = Isolated.isolated-word-0 u area low in
-          let units-are = Isolated.isolated-units-said u area low in
+          let zero = Isolated.isolated-word-0 (F .words) u area low in
+          let units-are = Isolated.isolated-units-said (F .words) u area low in
           let never : said (told (isolated u)) 0 ≡ 1 → ⊥ = λ d. omega (arith, zero) in
           record {
-            fills = omega (arith, Isolated.isolated-long u area low);
+            fills = omega (arith, Isolated.isolated-long (F .words) u area low);
             one-or-other = λ d. absurd (d zero);
             isolated-exactly = ((λ d. exactly .0 (ap isIsolated e)), λ safe. zero);
-            isolated-rest = λ d. Isolated.isolated-rest-said u area low;
+            isolated-rest = λ d. Isolated.isolated-rest-said (F .words) u area low;
             reached-first = λ d. absurd (never d);
             reached-leak = λ d. absurd (never d);
             reached-run = λ d. absurd (never d);
@@ -126,7 +129,7 @@ module _ (f : List ℕ) (s : Shape) (ok : Accepted f s) (q : Query) where
 
       says-reached : (u p : ℕ) (path : List ℕ) (h : Header) → verdictAsked F q ≡ reached u p path h → u ≤ q .budget
           → VerdictSays F q (told (reached u p path h))
-      unfolding isIsolated answered fabricIn fabricOf verdictWords reachedWords
+      unfolding isIsolated answered verdictWords reachedWords
       says-reached u p path h e l =
           let way = verdicts.reached-way F sound (q .limit) (q .port) (q .asked) wa u p path h e in
           let leak = verdicts.reached-leak F sound (q .limit) (q .port) (q .asked) edge wa u p path h e in
@@ -135,7 +138,7 @@ module _ (f : List ℕ) (s : Shape) (ok : Accepted f s) (q : Query) where
           let port : p < 2 ^ 32 = omega (arith, edge-port f s ok p (way .edge-port)) in
           let short : length path ≤ 16 = omega (arith, way .can-go .short) in
           let entries = fit-entries path (entries-low (2 ^ 32) (omega arith) (way .can-go)) in
-          let says = answer-says 1 u p path h area (omega arith) low port short entries (way .fits) in
+          let says = answer-says (F .words) 1 u p path h area (omega arith) low port short entries (way .fits) in
           let never : said (told (reached u p path h)) 0 ≡ 0 → ⊥ = λ d. omega (arith, says .first) in
           record {
             fills = says .fills;
@@ -171,10 +174,9 @@ module _ (f : List ℕ) (s : Shape) (ok : Accepted f s) (q : Query) where
 
   -- ---- the list
 
-  module _ (wa : WellFormed headerWords (q .asked)) (limit : q .limit ≤ 16) where
+  module _ (wa : WellFormed (F .words) (q .asked)) (limit : q .limit ≤ 16) where
     -- what a way's find has room for in its words
-    room-for : {d : Find} → EdgeSet F d → length (d .path) ≤ 16 → All (λ e. e < F .entries) (d .path) → Sayable d
-    unfolding fabricIn fabricOf
+    room-for : {d : Find} → EdgeSet F d → length (d .path) ≤ 16 → All (λ e. e < F .entries) (d .path) → Sayable (F .words) d
     room-for {d} is short low = record {
       port = edge-port f s ok (d .port) (is .edge);
       hops = omega arith;
@@ -191,11 +193,10 @@ module _ (f : List ℕ) (s : Shape) (ok : Accepted f s) (q : Query) where
     -- the finds of a list, and what they hold
     record Held (target : ℕ) : Type 0 where
       hold-just : HoldJust F (finds (listTrace F (q .limit) target (q .asked))) (IsListed F (q .limit) target (q .asked))
-      sayable : AllSayable (finds (listTrace F (q .limit) target (q .asked)))
+      sayable : AllSayable (F .words) (finds (listTrace F (q .limit) target (q .asked)))
 
     -- of packets that arrive
     held-edge : (target : ℕ) → F .isEdge (suc target) ≡ true → Held (suc target)
-    unfolding fabricIn fabricOf
     held-edge target edge =
         let t : ℕ = suc target in
         record {
@@ -215,7 +216,6 @@ module _ (f : List ℕ) (s : Shape) (ok : Accepted f s) (q : Query) where
 
     -- of packets that are lost
     held-lost : F .missDrops ≡ false → Held 0
-    unfolding fabricIn fabricOf
     held-lost old = record {
       hold-just = record {
         once = losses.loss-found F sound old (q .limit) (q .asked) wa;
@@ -245,35 +245,52 @@ module _ (f : List ℕ) (s : Shape) (ok : Accepted f s) (q : Query) where
         let h = held (q .port) e in
         record {
           listed =
-              ap₂ (λ (k m : ℕ). findsRead k (wordsFrom m (bytesOf ws ++ drop (4 * length ws) area) 0)) n n
-              ∙ ap (findsRead (length ws)) (words-back ws (drop (4 * length ws) area) (fit-finds (finds (listAsked F q)) (h .sayable)))
-              ∙ finds-back (finds (listAsked F q)) (h .sayable) (length ws) (omega arith);
+              ap₂ (λ (k m : ℕ). findsRead (F .words) k (wordsFrom m (bytesOf ws ++ drop (4 * length ws) area) 0)) n n
+              ∙ ap (findsRead (F .words) (length ws)) (words-back ws (drop (4 * length ws) area) (fit-finds (F .words) (finds (listAsked F q)) (h .sayable)))
+              ∙ finds-back (F .words) (finds (listAsked F q)) (h .sayable) (length ws) (omega arith);
           hold-just = h .hold-just;
           within-budget = l;
         }
 
 -- ---- demand 3: of every call that succeeds, for then every question got a yes
 
-pub demand-3 : (f : List ℕ) (q : Query) (area : List ℕ) → OfWords q → Demand3 f q area
-demand-3 f q area w = record {
+pub demand-3 : (w : ℕ) (f : List ℕ) (q : Query) (area : List ℕ) → OfWords w q → Demand3 w f q area
+demand-3 w f q area of = record {
   verdict-says = λ e.
-      let yes = succeeded Calls.Verdict f q area e in
+      let yes = succeeded Calls.Verdict w (of .width) f q area e in
       let y = yes .yeses in
-      subst (VerdictSays (fabricIn f) q) (sym (demand-1 Calls.Verdict f q area .all-answered (yes .shape) (yes .is-accepted) (yes .no-no)))
-      (verdict-said f (yes .shape) (yes .is-accepted) q (y .0) (tidied (y .1 .1 .0)) (limit-range (q .limit) (y .1 .0) .1) (w .budget) area
+      let ok = accepted-own w (of .width) f (yes .shape) (yes .is-read) in
+      let n = own (yes .shape) (yes .is-read) in
+      subst (VerdictSays (fabricIn f) q) (sym (demand-1 Calls.Verdict w f q area .all-answered (yes .shape) (yes .is-read) (yes .no-no)))
+      (verdict-said f (yes .shape) ok q (y .0) (tidied n (y .1 .1 .0)) (limit-range (q .limit) (y .1 .0) .1) (of .budget) area
       (leb-true _ _ (y .1 .1 .1 .1 .0)));
   list-says = λ e.
-      let yes = succeeded Calls.List f q area e in
+      let yes = succeeded Calls.List w (of .width) f q area e in
       let y = yes .yeses in
-      subst (ListSays (fabricIn f) q) (sym (demand-1 Calls.List f q area .all-answered (yes .shape) (yes .is-accepted) (yes .no-no)))
-      (list-said f (yes .shape) (yes .is-accepted) q (tidied (y .1 .1 .0)) (limit-range (q .limit) (y .1 .0) .1) area (y .0)
+      let ok = accepted-own w (of .width) f (yes .shape) (yes .is-read) in
+      let n = own (yes .shape) (yes .is-read) in
+      subst (ListSays (fabricIn f) q) (sym (demand-1 Calls.List w f q area .all-answered (yes .shape) (yes .is-read) (yes .no-no)))
+      (list-said f (yes .shape) ok q (tidied n (y .1 .1 .0)) (limit-range (q .limit) (y .1 .0) .1) area (y .0)
       (leb-true _ _ (y .1 .1 .1 .0)));
   run-says = λ e.
-      let yes = succeeded Calls.Run f q area e in
+      let yes = succeeded Calls.Run w (of .width) f q area e in
       let y = yes .yeses in
-      subst (RunSays (fabricIn f) q) (sym (demand-1 Calls.Run f q area .all-answered (yes .shape) (yes .is-accepted) (yes .no-no)))
-      (run-said f (yes .shape) (yes .is-accepted) q (y .1 .1 .0) (w .value) (limit-range (q .limit) (y .0) .1) area);
+      let ok = accepted-own w (of .width) f (yes .shape) (yes .is-read) in
+      let n = own (yes .shape) (yes .is-read) in
+      subst (RunSays (fabricIn f) q) (sym (demand-1 Calls.Run w f q area .all-answered (yes .shape) (yes .is-read) (yes .no-no)))
+      (run-said f (yes .shape) ok q (y .1 .1 .0) (subst (λ (m : ℕ). Words m (q .asked .value)) n (of .value))
+      (limit-range (q .limit) (y .0) .1) area);
 }
   where
-    tidied : askedTidy (q .asked) ≡ true → WellFormed headerWords (q .asked)
-    tidied e = record { care = w .care; value = w .value; is-tidy = e }
+    -- a file that the call accepts has headers of its words
+    own : (s : Shape) → accepted w f ≡ Reads.Fabric s → w ≡ fabricIn f .words
+    own s e =
+        let ok = accepted-own w (of .width) f s e in
+        accepted-width f w (of .width) s e ∙ sym (words-are f s ok)
+
+    tidied : w ≡ fabricIn f .words → clean (fabricIn f .words) (q .asked) ≡ true → WellFormed (fabricIn f .words) (q .asked)
+    tidied n e = record {
+      care = subst (λ (m : ℕ). Words m (q .asked .care)) n (of .care);
+      value = subst (λ (m : ℕ). Words m (q .asked .value)) n (of .value);
+      is-tidy = and-fst _ _ e;
+    }

@@ -12,7 +12,7 @@ use lib.Seq.{drop-at, getD-append-add}
 use Rattle.headers.specs.Bits.{Words, word, words, every}
 use Rattle.headers.proofs.Positions.{every-of}
 use Rattle.records.specs.Words.{bits}
-use Rattle.records.specs.Records.{headerWords, setWords}
+use Rattle.records.specs.Records.{setWords}
 use Rattle.forwarding.specs.Trace.{Find}
 use Rattle.forwarding.proofs.Lists.{All}
 use Rattle.events.specs.Play.{findWords, listWords}
@@ -20,12 +20,12 @@ use Rattle.fabric.specs.Demands.{findSize, findRead, isFind, findsRead}
 use Rattle.fabric.proofs.Said.{Fit, fit-append, fit-words, words-read}
 
 -- what the words of a find have room for
-pub record Sayable (d : Find) : Type 0 where
+pub record Sayable (n : ℕ) (d : Find) : Type 0 where
   pub port : d .port < 2 ^ 12
   pub hops : length (d .path) < 2 ^ 16
   pub entries : All (λ e. e < 2 ^ 28) (d .path)
-  pub care : Words headerWords (d .set .care)
-  pub value : Words headerWords (d .set .value)
+  pub care : Words n (d .set .care)
+  pub value : Words n (d .set .value)
 
 -- ---- fields of a word
 
@@ -65,7 +65,7 @@ entry-word (e ∷ path) rest (suc k) l = entry-word path rest k (omega arith)
 
 -- ---- one find
 
-module _ (d : Find) (s : Sayable d) (rest : List ℕ) where
+module _ (n : ℕ) (d : Find) (s : Sayable n d) (rest : List ℕ) where
   abbrev hops : ℕ
   hops = length (d .path)
 
@@ -102,39 +102,39 @@ module _ (d : Find) (s : Sayable d) (rest : List ℕ) where
       ∙ later-word (length (entryWords (d .path)) + w)
       ∙ getD-append-add (entryWords (d .path)) _ w 0
 
-  care-said : (w : ℕ) → w < headerWords → word (first ∷ later) (1 + hops + w) ≡ word (d .set .care) w
+  care-said : (w : ℕ) → w < n → word (first ∷ later) (1 + hops + w) ≡ word (d .set .care) w
   care-said w l = set-word w ∙ List·getD-append (d .set .care) (d .set .value ++ rest) 0 w (omega (arith, s .care .long))
 
-  value-said : (w : ℕ) → w < headerWords → word (first ∷ later) (1 + hops + headerWords + w) ≡ word (d .set .value) w
+  value-said : (w : ℕ) → w < n → word (first ∷ later) (1 + hops + n + w) ≡ word (d .set .value) w
   value-said w l =
       ap (word (first ∷ later))
-      (let e : 1 + hops + headerWords + w ≡ 1 + hops + (length (d .set .care) + w) = omega (arith, s .care .long) in e)
+      (let e : 1 + hops + n + w ≡ 1 + hops + (length (d .set .care) + w) = omega (arith, s .care .long) in e)
       ∙ set-word (length (d .set .care) + w)
       ∙ getD-append-add (d .set .care) _ w 0
       ∙ List·getD-append (d .set .value) rest 0 w (omega (arith, s .value .long))
 
   -- the find read, with as many hops as are said
   abbrev readBy : ℕ → Find
-  readBy n = record {
+  readBy m = record {
     port = bits 11 0 first;
-    path = words n (λ k. bits 27 0 (word (first ∷ later) (1 + k)));
+    path = words m (λ k. bits 27 0 (word (first ∷ later) (1 + k)));
     set = record {
-      care = words headerWords (λ w. word (first ∷ later) (1 + n + w));
-      value = words headerWords (λ w. word (first ∷ later) (1 + n + headerWords + w));
+      care = words n (λ w. word (first ∷ later) (1 + m + w));
+      value = words n (λ w. word (first ∷ later) (1 + m + n + w));
     };
   }
 
-  find-back : findRead (first ∷ later) ≡ d
+  find-back : findRead n (first ∷ later) ≡ d
   find-back = ap readBy hops-said ∙ λ i. record {
     port = first-port hops (d .port) (s .hops) (s .port) i;
     path = words-read hops _ (d .path) refl (λ k l. ap (bits 27 0) (entry-said k l) ∙ entry-number (word (d .path) k) (low k l)) i;
     set = record {
-      care = words-read headerWords _ (d .set .care) (s .care .long) care-said i;
-      value = words-read headerWords _ (d .set .value) (s .value .long) value-said i;
+      care = words-read n _ (d .set .care) (s .care .long) care-said i;
+      value = words-read n _ (d .set .value) (s .value .long) value-said i;
     };
   }
 
-  words-long : length (first ∷ later) ≡ 1 + hops + setWords + length rest
+  words-long : length (first ∷ later) ≡ 1 + hops + setWords n + length rest
   words-long = omega (
     arith,
     length-append (entryWords (d .path)) (d .set .care ++ (d .set .value ++ rest)),
@@ -146,34 +146,34 @@ module _ (d : Find) (s : Sayable d) (rest : List ℕ) where
   )
 
   abbrev isBy : ℕ → Bool
-  isBy n =
-      eqb (bits 31 28 first) 6 && every n (λ k. eqb (bits 31 28 (word (first ∷ later) (1 + k))) 7)
-      && leb (1 + n + setWords) (length (first ∷ later))
+  isBy m =
+      eqb (bits 31 28 first) 6 && every m (λ k. eqb (bits 31 28 (word (first ∷ later) (1 + k))) 7)
+      && leb (1 + m + setWords n) (length (first ∷ later))
 
-  is-find : isFind (first ∷ later) ≡ true
+  is-find : isFind n (first ∷ later) ≡ true
   is-find =
       ap isBy hops-said
       ∙ ap₂ _&&_
       (ap₂ _&&_ (eq-eqb _ 6 (first-kind hops (d .port) (s .hops) (s .port)))
       (every-of hops _ (λ k l. eq-eqb _ 7 (ap (bits 31 28) (entry-said k l) ∙ entry-kind (word (d .path) k) (low k l)))))
-      (le-leb (1 + hops + setWords) (length (first ∷ later)) (omega (arith, words-long)))
+      (le-leb (1 + hops + setWords n) (length (first ∷ later)) (omega (arith, words-long)))
 
-  after-find : drop (findSize (first ∷ later)) (first ∷ later) ≡ rest
+  after-find : drop (findSize n (first ∷ later)) (first ∷ later) ≡ rest
   after-find =
-      ap (λ (l : List ℕ). drop (findSize (first ∷ later)) l) (sym find-said)
-      ∙ drop-at (findWords d) rest (findSize (first ∷ later))
+      ap (λ (l : List ℕ). drop (findSize n (first ∷ later)) l) (sym find-said)
+      ∙ drop-at (findWords d) rest (findSize n (first ∷ later))
       (omega (arith, length-append (findWords d) rest, ap length find-said, words-long, hops-said))
 
   -- so the find is read, and then what is left
-  pub read-one : (k : ℕ) → findsRead (suc k) (findWords d ++ rest) ≡ Option·map (λ l. d ∷ l) (findsRead k rest)
+  pub read-one : (k : ℕ) → findsRead n (suc k) (findWords d ++ rest) ≡ Option·map (λ l. d ∷ l) (findsRead n k rest)
   unfolding findsRead
   read-one k =
-      ap (findsRead (suc k)) find-said
-      ∙ ap (λ (b : Bool). cond b (Option·map (λ l. findRead (first ∷ later) ∷ l) left-then) none) is-find
-      ∙ ap₂ (λ (x : Find) (l : List ℕ). Option·map (λ m. x ∷ m) (findsRead k l)) find-back after-find
+      ap (findsRead n (suc k)) find-said
+      ∙ ap (λ (b : Bool). cond b (Option·map (λ l. findRead n (first ∷ later) ∷ l) left-then) none) is-find
+      ∙ ap₂ (λ (x : Find) (l : List ℕ). Option·map (λ m. x ∷ m) (findsRead n k l)) find-back after-find
     where
       left-then : Option (List Find)
-      left-then = findsRead k (drop (findSize (first ∷ later)) (first ∷ later))
+      left-then = findsRead n k (drop (findSize n (first ∷ later)) (first ∷ later))
 
   pub some-word : 1 ≤ length (findWords d)
   unfolding findWords
@@ -181,21 +181,21 @@ module _ (d : Find) (s : Sayable d) (rest : List ℕ) where
 
 -- ---- all finds
 
-abbrev pub AllSayable : List Find → Type 0
-AllSayable ds = (d : Find) → List·Memᴰ d ds → Sayable d
+abbrev pub AllSayable : ℕ → List Find → Type 0
+AllSayable n ds = (d : Find) → List·Memᴰ d ds → Sayable n d
 
-pub finds-back : (ds : List Find) → AllSayable ds → (k : ℕ) → length (listWords ds) ≤ k → findsRead k (listWords ds) ≡ some ds
+pub finds-back : (n : ℕ) (ds : List Find) → AllSayable n ds → (k : ℕ) → length (listWords ds) ≤ k → findsRead n k (listWords ds) ≡ some ds
 unfolding listWords findsRead
-finds-back [] s zero l = refl
-finds-back [] s (suc k) l = refl
-finds-back (d ∷ ds) s zero l =
+finds-back n [] s zero l = refl
+finds-back n [] s (suc k) l = refl
+finds-back n (d ∷ ds) s zero l =
     let h = s d (List·Memᴰ·head refl) in
-    absurd (omega (arith, length-append (findWords d) (listWords ds), some-word d h []))
-finds-back (d ∷ ds) s (suc k) l =
+    absurd (omega (arith, length-append (findWords d) (listWords ds), some-word n d h []))
+finds-back n (d ∷ ds) s (suc k) l =
     let h = s d (List·Memᴰ·head refl) in
-    read-one d h (listWords ds) k
-    ∙ ap (Option·map (λ l. d ∷ l)) (finds-back ds (λ x m. s x (List·Memᴰ·tail m)) k
-    (omega (arith, length-append (findWords d) (listWords ds), some-word d h [])))
+    read-one n d h (listWords ds) k
+    ∙ ap (Option·map (λ l. d ∷ l)) (finds-back n ds (λ x m. s x (List·Memᴰ·tail m)) k
+    (omega (arith, length-append (findWords d) (listWords ds), some-word n d h [])))
 
 -- ---- their words have 32 bits
 
@@ -203,16 +203,16 @@ fit-entries : (path : List ℕ) → All (λ e. e < 2 ^ 28) path → Fit (entryWo
 fit-entries [] a = tt
 fit-entries (e ∷ path) a = (let l : e < 2 ^ 28 = a .0 in omega arith, fit-entries path (a .1))
 
-fit-find : (d : Find) → Sayable d → Fit (findWords d)
+fit-find : (n : ℕ) (d : Find) → Sayable n d → Fit (findWords d)
 unfolding findWords
-fit-find d s = (
+fit-find n d s = (
   omega (arith, s .hops, s .port),
   fit-append (entryWords (d .path)) _ (fit-entries (d .path) (s .entries))
-      (fit-append (d .set .care) (d .set .value) (fit-words headerWords _ (s .care)) (fit-words headerWords _ (s .value))),
+      (fit-append (d .set .care) (d .set .value) (fit-words n _ (s .care)) (fit-words n _ (s .value))),
 )
 
-pub fit-finds : (ds : List Find) → AllSayable ds → Fit (listWords ds)
+pub fit-finds : (n : ℕ) (ds : List Find) → AllSayable n ds → Fit (listWords ds)
 unfolding listWords
-fit-finds [] s = tt
-fit-finds (d ∷ ds) s =
-    fit-append (findWords d) (listWords ds) (fit-find d (s d (List·Memᴰ·head refl))) (fit-finds ds (λ x m. s x (List·Memᴰ·tail m)))
+fit-finds n [] s = tt
+fit-finds n (d ∷ ds) s =
+    fit-append (findWords d) (listWords ds) (fit-find n d (s d (List·Memᴰ·head refl))) (fit-finds n ds (λ x m. s x (List·Memᴰ·tail m)))

@@ -1,3 +1,4 @@
+mod Asked
 mod Calls
 mod Said
 mod FindsSaid

@@ -7,7 +7,6 @@ use native.Mathlib.Omega.{arith}
 use lib.ListN.{length, length-reverse}
 use Rattle.headers.specs.Bits.{Words}
 use Rattle.answer.specs.Answer.{answered, sixteen}
-use Rattle.records.specs.Records.{headerWords}
 use Rattle.records.specs.declared.Shape.{Shape}
 use Rattle.file.specs.Accepted.{Accepted}
 use Rattle.forwarding.specs.Fabric.{Fabric}
@@ -17,7 +16,7 @@ use Rattle.forwarding.proofs.Lists.{All, all-reverse}
 use Rattle.forwarding.proofs.Runs.{miss-fate-low, run-ends, hops-within}
 use Rattle.forwarding.proofs.RunFits.{run-fits}
 use Rattle.forwarding.proofs.Choices.{run-can-end, run-only-end, run-tied}
-use Rattle.model.specs.Model.{fabricOf, fabricIn}
+use Rattle.model.specs.Model.{fabricIn}
 use Rattle.model.proofs.Soundness.{fabric-sound}
 use Rattle.model.proofs.Ports.{out-port-low, link-to-low}
 use Rattle.journey.specs.Journey.{packetWords}
@@ -57,7 +56,7 @@ module _ (f : Fabric) where
 -- ---- the words
 
 module _ (f : List ℕ) (s : Shape) (ok : Accepted f s) (q : Query) (edge : fabricIn f .isEdge (q .port) ≡ true)
-    (wv : Words headerWords (q .asked .value)) (limit : q .limit ≤ 16) (area : List ℕ) where
+    (wv : Words (fabricIn f .words) (q .asked .value)) (limit : q .limit ≤ 16) (area : List ℕ) where
   abbrev F : Fabric
   F = fabricIn f
 
@@ -74,10 +73,9 @@ module _ (f : List ℕ) (s : Shape) (ok : Accepted f s) (q : Query) (edge : fabr
       (sym (length-reverse (takenBy packet)))
 
   abbrev SaysPacket : Type 0
-  SaysPacket = Says (fateOf F packet) 0 (portOf packet) (entriesTaken packet) (headerOf packet) (answered ws area)
+  SaysPacket = Says (F .words) (fateOf F packet) 0 (portOf packet) (entriesTaken packet) (headerOf packet) (answered ws area)
 
   says-words : SaysPacket
-  unfolding fabricIn fabricOf
   says-words =
       let fits = run-fits F (fabric-sound f s ok) 4096 (out-port-low f) (link-to-low f) (q .limit) (q .port) (q .asked .value)
       (edge-port f s ok (q .port) edge) wv
@@ -85,7 +83,7 @@ module _ (f : List ℕ) (s : Shape) (ok : Accepted f s) (q : Query) (edge : fabr
       let low = all-below (F .entries) (2 ^ 32) (omega (arith, entries-few f s ok)) (entriesTaken packet)
       (all-reverse _ (entriesTaken packet) (subst (All _) (sym (reverse-reverse (takenBy packet))) (fits .entries)))
       in
-      answer-says (fateOf F packet) 0 (portOf packet) (entriesTaken packet) (headerOf packet) area
+      answer-says (F .words) (fateOf F packet) 0 (portOf packet) (entriesTaken packet) (headerOf packet) area
       (omega (arith, fate-below F packet))
       (omega arith)
       (omega (arith, fits .port))
@@ -95,7 +93,7 @@ module _ (f : List ℕ) (s : Shape) (ok : Accepted f s) (q : Query) (edge : fabr
 
   says-run : SaysPacket → RunSays F q (answered ws area)
   says-run says =
-      let taken-are : reverse (entriesSaid (answered ws area)) ≡ takenBy packet =
+      let taken-are : reverse (entriesSaid (answered ws area) (F .words)) ≡ takenBy packet =
       ap reverse (says .entries) ∙ reverse-reverse (takenBy packet)
       in
       let is-said : PacketSaid F (answered ws area) packet =

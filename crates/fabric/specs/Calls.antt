@@ -29,8 +29,8 @@ wordsOf Calls.Run = runWordsAsked
 abbrev pub answerOf : Call → List ℕ → Query → Read → List ℕ → Outcome
 answerOf c f q r area = answerBy (questionsOf c) (wordsOf c) f q r area
 
--- what a call returns and leaves in the area
-abbrev pub callOf : Call → List ℕ → Query → List ℕ → Outcome
-callOf Calls.Verdict f q area = verdictCall f q area
-callOf Calls.List f q area = listCall f q area
-callOf Calls.Run f q area = runCall f q area
+-- what a call, for files whose headers have w words, returns and leaves in the area
+abbrev pub callOf : Call → ℕ → List ℕ → Query → List ℕ → Outcome
+callOf Calls.Verdict w f q area = verdictCall w f q area
+callOf Calls.List w f q area = listCall w f q area
+callOf Calls.Run w f q area = runCall w f q area

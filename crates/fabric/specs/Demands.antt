@@ -10,21 +10,21 @@ use lib.Dec.{eqb, leb}
 use lib.ListN.{length, drop}
 use Rattle.headers.specs.Bits.{Words, word, words, every}
 use Rattle.headers.specs.Sets.{Header, Set, contains, WellFormed}
-use Rattle.answer.specs.Answer.{Outcome, refused, answered}
+use Rattle.answer.specs.Answer.{answerWords, Outcome, refused, answered}
 use Rattle.records.specs.Words.{bits, wordAt, wordsFrom}
-use Rattle.records.specs.Records.{headerWords, setWords}
+use Rattle.records.specs.Records.{Width, setWords}
 use Rattle.records.specs.declared.Shape.{Shape}
 use Rattle.questions.specs.Questions.{accepted, firstNo}
-use Rattle.questions.specs.declared.Read.the-variants.{No}
-use Rattle.file.specs.Accepted.{Accepted}
-use Rattle.forwarding.specs.Fabric.{Fabric, inPortOf, applied}
+use Rattle.questions.specs.declared.Read.the-variants.{Fabric, No}
+use Rattle.forwarding.specs.Fabric as Forwarding
+use Rattle.forwarding.specs.Fabric.{inPortOf, applied}
 use Rattle.forwarding.specs.Run.{Packet, takes, run, fateOf, portOf, headerOf, entriesTaken}
 use Rattle.forwarding.specs.Choices.{Tie, CanEnd, IsListed}
 use Rattle.forwarding.specs.BackTrace.{backTraced}
 use Rattle.forwarding.specs.Trace.{Find, Event, find, units, finds, findsBy}
 use Rattle.forwarding.specs.Verdict.{foreignPacket, Leak, NoLeak}
 use Rattle.model.specs.Model.{fabricIn}
-use Rattle.calls.specs.Questions.{Query, answerWords}
+use Rattle.calls.specs.Questions.{Query}
 use Rattle.calls.specs.List.{listAsked, listCall}
 use Rattle.calls.specs.Verdict.{traceAsked, verdictCall}
 use Rattle.calls.specs.Run.{runCall}
@@ -34,20 +34,20 @@ use Rattle.fabric.specs.declared.Call.{Call}
 -- ---- demand 1
 
 -- D1: a call answers the first question that gets a no and then changes no byte lent, or else its words. Of each call, verdict, list and
--- run, with the questions and the words that `questionsOf` and `wordsOf` name.
-pub record Demand1 (c : Call) (f : List ℕ) (q : Query) (area : List ℕ) : Type 0 where
+-- run, for files whose headers have w words, with the questions and the words that `questionsOf` and `wordsOf` name.
+pub record Demand1 (c : Call) (w : ℕ) (f : List ℕ) (q : Query) (area : List ℕ) : Type 0 where
   -- questions 1 to 7
-  pub file-refused : (number place : ℕ) → accepted f ≡ No number place → callOf c f q area ≡ refused number place area
+  pub file-refused : (number place : ℕ) → accepted w f ≡ No number place → callOf c w f q area ≡ refused number place area
   -- the call's own, with place 0
-  pub query-refused : (s : Shape) → Accepted f s → (firstNo (questionsOf c (fabricIn f) q area) ≡ 0 → ⊥)
-      → callOf c f q area ≡ refused (firstNo (questionsOf c (fabricIn f) q area)) 0 area
-  pub all-answered : (s : Shape) → Accepted f s → firstNo (questionsOf c (fabricIn f) q area) ≡ 0
-      → callOf c f q area ≡ answered (wordsOf c (fabricIn f) q) area
+  pub query-refused : (s : Shape) → accepted w f ≡ Fabric s → (firstNo (questionsOf c (fabricIn f) q area) ≡ 0 → ⊥)
+      → callOf c w f q area ≡ refused (firstNo (questionsOf c (fabricIn f) q area)) 0 area
+  pub all-answered : (s : Shape) → accepted w f ≡ Fabric s → firstNo (questionsOf c (fabricIn f) q area) ≡ 0
+      → callOf c w f q area ≡ answered (wordsOf c (fabricIn f) q) area
 
 -- ---- demand 2
 
 -- D2: a header is in a part of entry e traced back for the exit set t exactly if e takes it and the header that e makes of it is in t
-abbrev pub Demand2 : Fabric → Type 0
+abbrev pub Demand2 : Forwarding.Fabric → Type 0
 Demand2 f =
     (e : ℕ) (t : Set) (h : Header) → e < f .entries → WellFormed (f .words) t → Words (f .words) h
     → ((s : Set) × List·Memᴰ s (backTraced f e t) × (contains (f .words) s h ≡ true))
@@ -70,7 +70,7 @@ said o k = wordAt (o .area) k
 -- ---- demand 3, the verdict
 
 -- V4: the first find with a foreign packet, and the units made before it
-pub record FirstForeign (f : Fabric) (q : Query) (u p : ℕ) (path : List ℕ) (h : Header) : Type 0 where
+pub record FirstForeign (f : Forwarding.Fabric) (q : Query) (u p : ℕ) (path : List ℕ) (h : Header) : Type 0 where
   pub before : List Event
   pub at : Find
   pub after : List Event
@@ -92,26 +92,27 @@ module _ (o : Outcome) where
   abbrev pub hopsSaid : ℕ
   hopsSaid = said o 3
 
-  abbrev pub headerSaid : Header
-  headerSaid = wordsFrom headerWords (o .area) 4
+  -- of headers of n words
+  abbrev pub headerSaid : ℕ → Header
+  headerSaid n = wordsFrom n (o .area) 4
 
-  abbrev pub entriesSaid : List ℕ
-  entriesSaid = wordsFrom hopsSaid (o .area) (4 + headerWords)
+  abbrev pub entriesSaid : ℕ → List ℕ
+  entriesSaid n = wordsFrom hopsSaid (o .area) (4 + n)
 
-pub record VerdictSays (f : Fabric) (q : Query) (o : Outcome) : Type 0 where
-  -- A9: it fills 24 words, and word 0 is 0 or 1
-  pub fills : wordsWritten o ≡ answerWords
+pub record VerdictSays (f : Forwarding.Fabric) (q : Query) (o : Outcome) : Type 0 where
+  -- A9: it fills 24 words, 28 in version 2, and word 0 is 0 or 1
+  pub fills : wordsWritten o ≡ answerWords (f .words)
   pub one-or-other : (said o 0 ≡ 0 → ⊥) → said o 0 ≡ 1
   -- D3a: isolated exactly if no foreign packet arrives under any choice; A10: then 0 from word 2 on
   pub isolated-exactly : said o 0 ≡ 0 ↔ NoLeak f (q .limit) (q .port) (q .asked)
-  pub isolated-rest : said o 0 ≡ 0 → (k : ℕ) → 2 ≤ k → k < answerWords → said o k ≡ 0
+  pub isolated-rest : said o 0 ≡ 0 → (k : ℕ) → 2 ≤ k → k < answerWords (f .words) → said o k ≡ 0
   -- D3b: else the packet is that of the first find with a foreign packet ..
-  pub reached-first : said o 0 ≡ 1 → FirstForeign f q (unitsSaid o) (portSaid o) (entriesSaid o) (headerSaid o)
+  pub reached-first : said o 0 ≡ 1 → FirstForeign f q (unitsSaid o) (portSaid o) (entriesSaid o (f .words)) (headerSaid o (f .words))
   -- .. it is foreign and arrives, under the choice of the entries said, which took it too if its run is not tied; A12: unused words are 0
-  pub reached-leak : said o 0 ≡ 1 → Leak f (q .limit) (q .port) (q .asked) (portSaid o) (entriesSaid o) (headerSaid o)
-  pub reached-run : said o 0 ≡ 1 → ¬ (fateOf f (run f (q .limit) (portSaid o) (headerSaid o)) ≡ 4)
-      → entriesTaken (run f (q .limit) (portSaid o) (headerSaid o)) ≡ entriesSaid o
-  pub reached-rest : said o 0 ≡ 1 → (k : ℕ) → 4 + headerWords + hopsSaid o ≤ k → k < answerWords → said o k ≡ 0
+  pub reached-leak : said o 0 ≡ 1 → Leak f (q .limit) (q .port) (q .asked) (portSaid o) (entriesSaid o (f .words)) (headerSaid o (f .words))
+  pub reached-run : said o 0 ≡ 1 → ¬ (fateOf f (run f (q .limit) (portSaid o) (headerSaid o (f .words))) ≡ 4)
+      → entriesTaken (run f (q .limit) (portSaid o) (headerSaid o (f .words))) ≡ entriesSaid o (f .words)
+  pub reached-rest : said o 0 ≡ 1 → (k : ℕ) → 4 + f .words + hopsSaid o ≤ k → k < answerWords (f .words) → said o k ≡ 0
   -- D3d: isolated has the units of the whole back-trace, reached those before its find (reached-first), and the budget had them
   pub isolated-units : said o 0 ≡ 0 → unitsSaid o ≡ units (traceAsked f q)
   pub within-budget : unitsSaid o ≤ q .budget
@@ -119,8 +120,8 @@ pub record VerdictSays (f : Fabric) (q : Query) (o : Outcome) : Type 0 where
 -- ---- demand 3, the list
 
 -- A13, the find at the head of some words: a word of kind 6 with hops and edge port, for each entry one of kind 7 with its number, care
--- and value
-module _ (ws : List ℕ) where
+-- and value of n words each
+module _ (n : ℕ) (ws : List ℕ) where
   abbrev pub hopsRead : ℕ
   hopsRead = bits 27 12 (word ws 0)
 
@@ -128,15 +129,15 @@ module _ (ws : List ℕ) where
   setAt = 1 + hopsRead
 
   abbrev pub findSize : ℕ
-  findSize = setAt + setWords
+  findSize = setAt + setWords n
 
   abbrev pub findRead : Find
   findRead = record {
     port = bits 11 0 (word ws 0);
     path = words hopsRead (λ k. bits 27 0 (word ws (1 + k)));
     set = record {
-      care = words headerWords (λ w. word ws (setAt + w));
-      value = words headerWords (λ w. word ws (setAt + headerWords + w));
+      care = words n (λ w. word ws (setAt + w));
+      value = words n (λ w. word ws (setAt + n + w));
     };
   }
 
@@ -146,19 +147,19 @@ module _ (ws : List ℕ) where
 
 -- the finds that some words say, one after the other, or none where they say anything else; a find takes a word at least, so as many turns
 -- as words never run out
-unfoldable pub findsRead : ℕ → List ℕ → Option (List Find)
-findsRead zero [] = some []
-findsRead zero (w ∷ ws) = none
-findsRead (suc k) [] = some []
-findsRead (suc k) (w ∷ ws) =
-    let later = findsRead k (drop (findSize (w ∷ ws)) (w ∷ ws)) in
-    cond (isFind (w ∷ ws)) (Option·map (λ l. findRead (w ∷ ws) ∷ l) later) none
+unfoldable pub findsRead : ℕ → ℕ → List ℕ → Option (List Find)
+findsRead n zero [] = some []
+findsRead n zero (w ∷ ws) = none
+findsRead n (suc k) [] = some []
+findsRead n (suc k) (w ∷ ws) =
+    let later = findsRead n k (drop (findSize n (w ∷ ws)) (w ∷ ws)) in
+    cond (isFind n (w ∷ ws)) (Option·map (λ l. findRead n (w ∷ ws) ∷ l) later) none
 
-abbrev pub findsSaid : Outcome → Option (List Find)
-findsSaid o = findsRead (wordsWritten o) (wordsFrom (wordsWritten o) (o .area) 0)
+abbrev pub findsSaid : Outcome → ℕ → Option (List Find)
+findsSaid o n = findsRead n (wordsWritten o) (wordsFrom (wordsWritten o) (o .area) 0)
 
 -- D3c: the finds hold just the pairs of an edge port and a header that P names, each by the entries with which it names it
-pub record HoldJust (f : Fabric) (l : List Find) (P : ℕ → List ℕ → Header → Type 0) : Type 0 where
+pub record HoldJust (f : Forwarding.Fabric) (l : List Find) (P : ℕ → List ℕ → Header → Type 0) : Type 0 where
   -- each pair is in just one find by the entries of each choice under which it is named, so in one at least if it is named ..
   pub once : (p : ℕ) (path : List ℕ) (h : Header) → f .isEdge p ≡ true → Words (f .words) h
       → P p path h → findsBy (f .words) p path h l ≡ 1
@@ -171,9 +172,9 @@ pub record HoldJust (f : Fabric) (l : List Find) (P : ℕ → List ℕ → Heade
   pub only : (d : Find) → List·Memᴰ d l → (h : Header) → Words (f .words) h
       → contains (f .words) (d .set) h ≡ true → P (d .port) (d .path) h
 
-pub record ListSays (f : Fabric) (q : Query) (o : Outcome) : Type 0 where
+pub record ListSays (f : Forwarding.Fabric) (q : Query) (o : Outcome) : Type 0 where
   -- D3c: the words written are the finds of the trace, in its order
-  pub listed : findsSaid o ≡ some (finds (listAsked f q))
+  pub listed : findsSaid o (f .words) ≡ some (finds (listAsked f q))
   -- D3c: they hold just the packets that arrive; D3g: for target 0, those that are lost
   pub hold-just : HoldJust f (finds (listAsked f q)) (IsListed f (q .limit) (q .port) (q .asked))
   -- D3d: the budget had the units of the whole trace
@@ -183,34 +184,36 @@ pub record ListSays (f : Fabric) (q : Query) (o : Outcome) : Type 0 where
 
 -- A11: the words of a run have the places of a verdict's, but for the fate in word 0 and a 0 in word 1. They say what has become of a
 -- packet.
-pub record PacketSaid (f : Fabric) (o : Outcome) (s : Packet) : Type 0 where
+pub record PacketSaid (f : Forwarding.Fabric) (o : Outcome) (s : Packet) : Type 0 where
   pub fate : said o 0 ≡ fateOf f s
   pub port : portSaid o ≡ portOf s
-  pub header : headerSaid o ≡ headerOf s
-  pub entries : entriesSaid o ≡ entriesTaken s
+  pub header : headerSaid o (f .words) ≡ headerOf s
+  pub entries : entriesSaid o (f .words) ≡ entriesTaken s
 
-pub record RunSays (f : Fabric) (q : Query) (o : Outcome) : Type 0 where
-  -- A11: it fills 24 words; A12: unused words are 0
-  pub fills : wordsWritten o ≡ answerWords
+pub record RunSays (f : Forwarding.Fabric) (q : Query) (o : Outcome) : Type 0 where
+  -- A11: it fills 24 words, 28 in version 2; A12: unused words are 0
+  pub fills : wordsWritten o ≡ answerWords (f .words)
   pub second : said o 1 ≡ 0
-  pub rest : (k : ℕ) → 4 + headerWords + hopsSaid o ≤ k → k < answerWords → said o k ≡ 0
+  pub rest : (k : ℕ) → 4 + f .words + hopsSaid o ≤ k → k < answerWords (f .words) → said o k ≡ 0
   -- D3f: a packet whose run is not tied can end as is said, and in no other way ..
   pub can-end : ¬ (said o 0 ≡ 4) → (s : Packet) × CanEnd f (q .limit) (q .port) (q .asked .value) s × PacketSaid f o s
   pub only-end : ¬ (said o 0 ≡ 4) → (s : Packet) → CanEnd f (q .limit) (q .port) (q .asked .value) s → PacketSaid f o s
   -- .. and one whose run is tied can come where is said, with a hop left, and more than one entry may take it there
-  pub tied-there : said o 0 ≡ 4 → Tie f (q .port) (q .asked .value) (portSaid o) (headerSaid o) (reverse (entriesSaid o))
+  pub tied-there : said o 0 ≡ 4
+      → Tie f (q .port) (q .asked .value) (portSaid o) (headerSaid o (f .words)) (reverse (entriesSaid o (f .words)))
   pub hop-left : said o 0 ≡ 4 → hopsSaid o < q .limit
 
 -- ---- demand 3
 
--- A2: the calls are handed numbers of 32 bits
-pub record OfWords (q : Query) : Type 0 where
+-- A2: the calls are handed numbers of 32 bits, for headers of w words
+pub record OfWords (w : ℕ) (q : Query) : Type 0 where
+  pub width : Width w
   pub budget : q .budget < 2 ^ 32
-  pub care : Words headerWords (q .asked .care)
-  pub value : Words headerWords (q .asked .value)
+  pub care : Words w (q .asked .care)
+  pub value : Words w (q .asked .value)
 
 -- D3e: of every file, query and area, a verdict, a list and a run that succeed say what forwarding does
-pub record Demand3 (f : List ℕ) (q : Query) (area : List ℕ) : Type 0 where
-  pub verdict-says : Succeeds (verdictCall f q area) → VerdictSays (fabricIn f) q (verdictCall f q area)
-  pub list-says : Succeeds (listCall f q area) → ListSays (fabricIn f) q (listCall f q area)
-  pub run-says : Succeeds (runCall f q area) → RunSays (fabricIn f) q (runCall f q area)
+pub record Demand3 (w : ℕ) (f : List ℕ) (q : Query) (area : List ℕ) : Type 0 where
+  pub verdict-says : Succeeds (verdictCall w f q area) → VerdictSays (fabricIn f) q (verdictCall w f q area)
+  pub list-says : Succeeds (listCall w f q area) → ListSays (fabricIn f) q (listCall w f q area)
+  pub run-says : Succeeds (runCall w f q area) → RunSays (fabricIn f) q (runCall w f q area)

@@ -1,13 +1,17 @@
--- The three loops of the reader: what each has in hand where it begins, what a turn keeps, and what each way out gives. Assumes nothing.
+-- The three loops of the reader: what each has in hand where it begins, what a turn keeps, and what each way out gives. A reader
+-- is handed hw, the words of a header in the file.
 use mathlib.Core.List.{List, []}
 use mathlib.Core.Path.{_≡_, refl, sym, ap, _∙_}
 use Prim.Native.Nat.{ℕ, _+_, _≤_, _<_}
 use native.Mathlib.Omega.{arith}
 use lib.ListN.{getD, set, replicate}
 use Rattle.records.specs.Words.{wordAt, wordsIn, kindOf, portOf, fromOf}
-use Rattle.records.specs.Records.{edgeWords, entryWords, placeOf, portOfEdge, fromOfLink, toOfLink, inOfEntry, recent}
+use Rattle.records.specs.Records.{Width, widthIn, edgeWords, entryWords, placeOf, placeIn}
+use Rattle.records.specs.Records.{portOfEdge, fromOfLink, toOfLink, inOfEntry, recent}
+use Rattle.records.specs.Limits.{mostAtPort, mostWords}
+use Rattle.records.proofs.Widths.{width-said}
 use Rattle.questions.specs.Questions.{latest, times}
-use Rattle.questions.specs.Reading.{passedAt, Here, askedAt}
+use Rattle.questions.specs.Reading.{passedAt, Bounded, Here, askedAt}
 use Rattle.questions.specs.Tables.{Counts, EdgeTable, StartTable, EndTable}
 use Rattle.questions.proofs.Lists.{recent-more}
 use Rattle.questions.proofs.Yes.{yeses, EdgeIs, edge-is, LinkIs, link-is, EntryIs, entry-is}
@@ -20,7 +24,7 @@ use Rattle.file.proofs.Steps.{stops, next-edge, next-link, next-entry}
 
 -- a run begun after e₀ edges, l₀ links and n₀ entries got to here, with yeses
 pub record SoFar (f : List ℕ) (e₀ l₀ n₀ e l n place : ℕ) : Type 0 where
-  pub place-is : place ≡ placeOf e l n
+  pub place-is : place ≡ placeIn f e l n
   pub inside : place ≤ wordsIn f
   pub answer : rest f e₀ l₀ n₀ ≡ rest f e l n
 
@@ -40,6 +44,11 @@ pub record EntriesSoFar (f : List ℕ) (e l n place : ℕ) (counts : List ℕ) :
   pub counted : Counts (recent (inOfEntry f e l) n) counts
 
 -- ---- a run of any kind, at a record and as it is left
+
+-- what `place` wants of the record after e edges, l links and n entries
+pub place-fits : (f : List ℕ) (hw e l n : ℕ) → hw ≡ widthIn f → Bounded f → placeIn f e l n ≤ wordsIn f
+    → Width hw × (placeOf hw e l n ≤ mostWords)
+place-fits f hw e l n hh b i = (width-said f hh, rw hh (omega (arith, b .high)))
 
 module _ (f : List ℕ) (e₀ l₀ n₀ e l n place : ℕ) (s : SoFar f e₀ l₀ n₀ e l n place) where
   -- the record in hand, by the word and the kind that were read
@@ -61,16 +70,23 @@ module _ (f : List ℕ) (e₀ l₀ n₀ e l n place : ℕ) (s : SoFar f e₀ l�
 
   pub refused : (k q : ℕ) → q ≡ askedAt f e l n → (q ≡ 0 → ⊥) → RunRead f k e₀ l₀ n₀ e l n q
   refused k q a z =
-      let i : placeOf e l n ≤ wordsIn f = rw (s .place-is) at (s .inside) in
+      let i : placeIn f e l n ≤ wordsIn f = rw (s .place-is) at (s .inside) in
       record {
         inside = i;
         answer = s .answer ∙ stops f e l n i q (rest f e l n) a z;
         done = λ h _ _. absurd (z h);
       }
 
-  further : (e′ l′ n′ place′ : ℕ) → place′ ≡ placeOf e′ l′ n′ → place′ ≤ wordsIn f → rest f e l n ≡ rest f e′ l′ n′
+  further : (e′ l′ n′ place′ : ℕ) → place′ ≡ placeIn f e′ l′ n′ → place′ ≤ wordsIn f → rest f e l n ≡ rest f e′ l′ n′
       → SoFar f e₀ l₀ n₀ e′ l′ n′ place′
   further e′ l′ n′ place′ p i r = record { place-is = p; inside = i; answer = s .answer ∙ r }
+
+-- a run of links or entries begins after e edges and l links
+started : (f : List ℕ) (e l hw place : ℕ) → hw ≡ widthIn f → place ≡ placeOf hw e l 0 → placeIn f e l 0 ≤ wordsIn f
+    → SoFar f e l 0 e l 0 place
+started f e l hw place hh hp h =
+    let here : place ≡ placeIn f e l 0 = hp ∙ ap (λ (w : ℕ). placeOf w e l 0) hh in
+    record { place-is = here; inside = omega arith; answer = refl }
 
 latest-more : (g : ℕ → ℕ) (n p : ℕ) → p ≡ g n → p ≡ latest (recent g (n + 1))
 latest-more g n p h = h ∙ sym (ap latest (recent-more g n))
@@ -79,7 +95,7 @@ latest-more g n p h = h ∙ sym (ap latest (recent-more g n))
 
 pub edges-start : (f t : List ℕ) → 2 ≤ wordsIn f → Empty t → EdgesSoFar f 0 1 0 t
 edges-start f t h T = record {
-  so-far = record { place-is = refl; inside = omega arith; answer = refl };
+  so-far = record { place-is = omega arith; inside = omega arith; answer = refl };
   last-is = refl;
   edge-at = T;
 }
@@ -90,14 +106,16 @@ module _ (f : List ℕ) (e place last : ℕ) (t : List ℕ) (s : EdgesSoFar f e 
   edge-here : EdgeIs f e
   edge-here = edge-is f e (rw (h .word-is) at (h .kind-is)) (yeses f (passedAt f e 0 0) (sym hq ∙ z))
 
-  pub edges-next : (port : ℕ) → port ≡ portOf w → EdgesSoFar f (e + 1) (place + edgeWords) port (set t port (e + 1))
-  edges-next port hp =
+  pub edges-next : (port hw size : ℕ) → port ≡ portOf w → hw ≡ widthIn f → size ≡ edgeWords hw
+      → EdgesSoFar f (e + 1) (place + size) port (set t port (e + 1))
+  edges-next port hw size hp hh hs =
       let p : port ≡ portOfEdge f e = hp ∙ ap portOf (h .word-is) in
       let i = edge-here .inside in
       let o = s .so-far in
-      record {
+      rw (hs, hh) record {
         so-far =
-            further f 0 0 0 e 0 0 place o (e + 1) 0 0 (place + edgeWords) (omega (arith, o .place-is)) (omega (arith, o .place-is))
+            further f 0 0 0 e 0 0 place o (e + 1) 0 0 (place + edgeWords (widthIn f)) (omega (arith, o .place-is))
+            (omega (arith, o .place-is))
             (next-edge f e (omega arith) (rw (h .word-is) at (h .kind-is)) (sym hq ∙ z));
         last-is = latest-more (portOfEdge f) e port p;
         edge-at = numbered (portOfEdge f) e port t p (omega arith) (s .edge-at);
@@ -105,10 +123,10 @@ module _ (f : List ℕ) (e place last : ℕ) (t : List ℕ) (s : EdgesSoFar f e 
 
 -- ---- links
 
-pub links-start : (f : List ℕ) (e place : ℕ) (starts ends : List ℕ) → place ≡ placeOf e 0 0 → placeOf e 0 0 ≤ wordsIn f → Empty starts → Empty ends
-    → LinksSoFar f e 0 place 0 starts ends
-links-start f e place starts ends hp h t u = record {
-  so-far = record { place-is = hp; inside = omega arith; answer = refl };
+pub links-start : (f : List ℕ) (hw e place : ℕ) (starts ends : List ℕ) → hw ≡ widthIn f → place ≡ placeOf hw e 0 0
+    → placeIn f e 0 0 ≤ wordsIn f → Empty starts → Empty ends → LinksSoFar f e 0 place 0 starts ends
+links-start f hw e place starts ends hh hp h t u = record {
+  so-far = started f e 0 hw place hh hp h;
   last-is = refl;
   start-at = t;
   end-at = u;
@@ -137,9 +155,10 @@ module _ (f : List ℕ) (e l place last : ℕ) (starts ends : List ℕ) (s : Lin
 
 -- ---- entries
 
-pub entries-start : (f : List ℕ) (e l place : ℕ) → place ≡ placeOf e l 0 → placeOf e l 0 ≤ wordsIn f → EntriesSoFar f e l 0 place (replicate 4096 0)
-entries-start f e l place hp h = record {
-  so-far = record { place-is = hp; inside = omega arith; answer = refl };
+pub entries-start : (f : List ℕ) (hw e l place : ℕ) → hw ≡ widthIn f → place ≡ placeOf hw e l 0 → placeIn f e l 0 ≤ wordsIn f
+    → EntriesSoFar f e l 0 place (replicate 4096 0)
+entries-start f hw e l place hh hp h = record {
+  so-far = started f e l hw place hh hp h;
   counted = zeros (λ p. times p []) (λ p. refl);
 }
 
@@ -152,16 +171,18 @@ module _ (f : List ℕ) (e l n place : ℕ) (counts : List ℕ) (s : EntriesSoFa
   port-is = hp ∙ ap portOf (h .word-is)
 
   -- there is room for one more entry of its in-port
-  pub entry-room : getD counts port 0 < 64
+  pub entry-room : getD counts port 0 < mostAtPort
   entry-room = rw (s .counted .holds port (omega arith), port-is) (entry-here .port-limit)
 
-  pub entries-next : EntriesSoFar f e l (n + 1) (place + entryWords) (set counts port (getD counts port 0 + 1))
-  entries-next =
+  pub entries-next : (hw size : ℕ) → hw ≡ widthIn f → size ≡ entryWords hw
+      → EntriesSoFar f e l (n + 1) (place + size) (set counts port (getD counts port 0 + 1))
+  entries-next hw size hh hs =
       let i = entry-here .inside in
       let o = s .so-far in
-      record {
+      rw (hs, hh) record {
         so-far =
-            further f e l 0 e l n place o e l (n + 1) (place + entryWords) (omega (arith, o .place-is)) (omega (arith, o .place-is))
+            further f e l 0 e l n place o e l (n + 1) (place + entryWords (widthIn f)) (omega (arith, o .place-is))
+            (omega (arith, o .place-is))
             (next-entry f e l n (omega arith) (rw (h .word-is) at (h .kind-is)) (sym hq ∙ z));
         counted = counted (inOfEntry f e l) n port counts port-is (omega arith) (s .counted);
       }

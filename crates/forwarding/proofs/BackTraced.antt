@@ -79,7 +79,7 @@ module _ (f : Fabric) (sound : Sound f) where
             intersection-exact (f .words) s _ (undoes-well-formed f sound e t wt s d) (sound .match-well-formed e) h
             ∙ and-comm (contains (f .words) s h) (holds f e h)
 
-    back-well-formed : (s : Set) → back f e t ≡ some s → WellFormed (f .words) s
+    pub back-well-formed : (s : Set) → back f e t ≡ some s → WellFormed (f .words) s
     unfolding back bind
     back-well-formed s d = go (undoes f e t) refl d
       where

@@ -19,4 +19,6 @@ pub mod Foreign
 pub mod Stops
 pub mod Verdicts
 pub mod Budget
+pub mod Wider
+pub mod WiderRuns
 mod TwoHops

@@ -106,7 +106,7 @@ module _ (f : Fabric) (target : ℕ) where
       }
 
   -- the packet has as many words as a header of the fabric
-  packet-long : (d : Find) (h : Header) → foreignPacket f target d ≡ some h → length h ≡ f .words
+  pub packet-long : (d : Find) (h : Header) → foreignPacket f target d ≡ some h → length h ≡ f .words
   unfolding foreignPacket
   packet-long d h e = go (eqb (f .group (d .port)) (f .group target)) (head? (carve (f .words) (d .set) (f .admitted (d .port)))) e
     where

@@ -1,6 +1,6 @@
 -- Document 01's examples on fabric F and on single entries, and where the published method misleads; each computed. Assumes nothing.
 use mathlib.Core.Bool.{Bool, true, false, _||_, cond}
-use mathlib.Core.List.{List, [], _∷_, map, flatMap}
+use mathlib.Core.List.{List, [], _∷_, _++_, map, flatMap}
 use mathlib.Core.Option.{some, none, bind, Option·elim, orElse}
 use mathlib.Core.Path.{_≡_, refl}
 use Prim.Native.Nat.{ℕ}
@@ -17,6 +17,7 @@ use Rattle.forwarding.specs.Run.{fateOf, portOf, headerOf, takenBy, hops
 use Rattle.forwarding.specs.BackTrace.{back, beaters, survivors, backTraced}
 use Rattle.forwarding.specs.Trace.{unit, find, carved, atInPort, takenUp, stop, trace, lostAt, lostTrace, listTrace}
 use Rattle.forwarding.specs.Verdict.{isolated, reached, foreignPacket, verdict, verdictOn, endsWithin, verdictWithin}
+use Rattle.forwarding.specs.Wider.{widerTo}
 
 abbrev pub header : ℕ → ℕ → ℕ → ℕ → Header
 header a b c d = a ∷ b ∷ c ∷ d ∷ []
@@ -112,6 +113,16 @@ E3 = refl
 E3-run : run F 1 1 (header 0 0x0a000002 2 0) ≡ left 2 (header 0 0x0a000002 2 0) (1 ∷ [])
 unfolding computing
 E3-run = refl
+
+-- document 02, 2.6: the same in a fabric of eight words, where no entry looks at the last four or changes them
+E3-wider : verdictOn (widerTo 8 F) 2 1 (allWild 8) ≡ reached 2 1 (1 ∷ []) (header 0 0x0a000002 2 0 ++ header 0 0 0 0)
+unfolding computing
+E3-wider = refl
+
+E3-run-wider : run (widerTo 8 F) 1 1 (header 0 0x0a000002 2 0 ++ header 5 6 7 8)
+    ≡ left 2 (header 0 0x0a000002 2 0 ++ header 5 6 7 8) (1 ∷ [])
+unfolding computing
+E3-run-wider = refl
 
 -- "budget 1: 13"
 E4 : verdictWithin F 2 1 0 (trace F 1 2 (allWild 4)) ≡ none

@@ -5,4 +5,5 @@ pub mod Best
 pub mod BackTrace
 pub mod Trace
 pub mod Verdict
+pub mod Wider
 pub mod Examples

@@ -1,6 +1,7 @@
 -- Carving is exact, part by part and as a whole, for any number of words. Assumes nothing.
 use mathlib.Core.Bool.{Bool, true, false, not, _&&_, _||_, cond, true≢false, false≢true, or-false}
-use mathlib.Core.List.{List, [], _∷_}
+use mathlib.Core.List.{List, [], _∷_, head?}
+use mathlib.Core.Option.{some, none}
 use mathlib.Core.Path.{_≡_, refl, sym, ap, ap₂, _∙_, subst}
 use Prim.Native.Nat.{ℕ, zero, suc, _+_, _*_, _<_}
 use native.Mathlib.Decide.{ℕ-discrete}
@@ -204,3 +205,23 @@ module _ (n : ℕ) (b : Set) (cb : Words n (b .care)) (vb : Words n (b .value)) 
       (bitAt (p .care) i) (bitAt (b .care) i) (bitAt m i) true true)
       ∙ ap (λ (x : Bool). x && not (bitAt m i)) (sym (free-bit n p b cp i l))
       ∙ sym (outside-bit n m (free n p b) wm i l)
+
+  -- ---- the first part of a carving
+
+  -- where the two don't meet it is p itself
+  pub first-apart : (p : Set) → overlaps n p b ≡ false → head? (carve n p b) ≡ some p
+  unfolding carve
+  first-apart p e = ap (λ (o : Bool). head? (cond o (parts n p b) (p ∷ []))) e
+
+  -- else there is none where no bit is free, and with one the first free bit makes it
+  module _ (p : Set) (o : overlaps n p b ≡ true) where
+    carve-parts : carve n p b ≡ parts n p b
+    unfolding carve
+    carve-parts = ap (λ (o : Bool). cond o (parts n p b) (p ∷ [])) o
+
+    pub first-none : noBit n (free n p b) ≡ true → head? (carve n p b) ≡ none
+    first-none e = ap head? (carve-parts ∙ parts-none p e)
+
+    pub first-free : Words n (p .care) → noBit n (free n p b) ≡ false
+        → head? (carve n p b) ≡ some (taking n (firstBit n (free n p b)) (turned n b) p)
+    first-free cp e = ap head? (carve-parts ∙ parts-first p cp e)

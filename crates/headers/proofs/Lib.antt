@@ -12,3 +12,6 @@ pub mod Carved
 pub mod Parts
 pub mod Misleading
 pub mod Answers
+pub mod Beside
+pub mod Padded
+pub mod ActsBeside

@@ -1,6 +1,6 @@
 -- Membership bit by bit, well-formed sets, the lowest header, what masks make, and sets with the same members. For any number of words.
 -- Assumes nothing.
-use mathlib.Core.Bool.{Bool, true, false, not, _&&_, _||_, true≢false, false≢true}
+use mathlib.Core.Bool.{Bool, true, false, not, _&&_, _||_, true≢false, false≢true, and-true}
 use mathlib.Core.List.{List}
 use mathlib.Core.Logic.{_↔_}
 use mathlib.Core.Option.{Option, some, none}
@@ -127,6 +127,23 @@ overwritten-fits n m x l f = words-fit n _ λ w k.
     or-lt 32 _ _
     (lt-of-le-of-lt (and-le-r (word l w) (complement (word m w))) (omega arith))
     (lt-of-le-of-lt (and-le-l (word x w) (word m w)) (f .fits w k))
+
+-- a mask of no bits leaves all of a list
+module _ (n : ℕ) (l : List ℕ) (fits : Words n l) where
+  pub outside-none : outside n (words n (λ w. 0)) l ≡ l
+  outside-none = words-ext n _ l (outside-fits n (words n (λ w. 0)) l fits) fits λ i k.
+      outside-bit n (words n (λ w. 0)) l (no-bits n) i k
+      ∙ ap (λ (b : Bool). bitAt l i && not b) (no-bit n i k) ∙ and-true (bitAt l i)
+
+  pub overwritten-none : (x : List ℕ) → Words n x → overwritten n (words n (λ w. 0)) x l ≡ l
+  overwritten-none x fx = words-ext n _ l (overwritten-fits n (words n (λ w. 0)) x l fx) fits λ i k.
+      overwritten-bit n (words n (λ w. 0)) x l (no-bits n) i k
+      ∙ ap (λ (b : Bool). bitAt l i && not b || bitAt x i && b) (no-bit n i k) ∙ kept (bitAt l i) (bitAt x i)
+    where
+      kept : (a b : Bool) → (a && true || b && false) ≡ a
+      kept true b = refl
+      kept false true = refl
+      kept false false = refl
 
 -- ---- empty
 

@@ -66,8 +66,11 @@ words-same (suc n) f g e =
     ap₂ _∷_ (e 0 (omega arith)) (words-same n (λ w. f (suc w)) (λ w. g (suc w)) (λ w l. e (suc w) (omega arith)))
 
 -- a list of words written out again
+pub words-whole : (n : ℕ) (l : List ℕ) → length l ≡ n → words n (word l) ≡ l
+words-whole n l e = ext-getD 0 _ _ (words-long n (word l) ∙ sym e) λ w k. word-of n (word l) w (rw (words-long n (word l)) at k)
+
 pub words-again : (n : ℕ) (l : List ℕ) → Words n l → words n (word l) ≡ l
-words-again n l f = ext-getD 0 _ _ (words-long n (word l) ∙ sym (f .long)) λ w k. word-of n (word l) w (rw (words-long n (word l)) at k)
+words-again n l f = words-whole n l (f .long)
 
 -- an array of the code
 pub array-words : (n : ℕ) (l : List ℕ) → length l ≡ n → ((w : ℕ) → Fits w32 (word l w)) → Words n l

@@ -8,9 +8,9 @@ use native.Mathlib.Omega.{arith}
 use Rattle.headers.specs.Bits.{Words, bitAt}
 use Rattle.headers.specs.Sets.{Header, Set, Rewrite, contains, WellFormed, overlaps, among, rewritten, writes, widened, undone, noRewrite}
 use Rattle.headers.proofs.Booleans.{_⇒_, _==_, refuted, same-true, implied, always}
-use Rattle.headers.proofs.Positions.{every-at, every-of, every-same, words-ext}
+use Rattle.headers.proofs.Positions.{every-at, every-of, every-same}
 use Rattle.headers.proofs.Members.{contains-bits, value-inside, well-formed, outside-bit, outside-fits}
-use Rattle.headers.proofs.Members.{rewritten-bit, rewritten-fits, empty-exactly, no-bit, no-bits}
+use Rattle.headers.proofs.Members.{overwritten-none, rewritten-bit, empty-exactly, no-bits}
 use Rattle.headers.proofs.Intersection.{overlaps-bits}
 
 module _ (n : ℕ) (r : Rewrite) (t : Set) (m : Words n (r .mask)) where
@@ -69,10 +69,4 @@ module _ (n : ℕ) (r : Rewrite) (t : Set) (m : Words n (r .mask)) where
 
 -- the rewrite that masks no bit leaves every header as it is
 pub no-rewrite-keeps : (n : ℕ) (h : Header) → Words n h → rewritten n (noRewrite n) h ≡ h
-no-rewrite-keeps n h f = words-ext n (rewritten n (noRewrite n) h) h
-    (rewritten-fits n (noRewrite n) (record { mask = no-bits n; value = no-bits n }) h) f
-    (λ i l. rewritten-bit n (noRewrite n) (no-bits n) h i l ∙ ap (λ (b : Bool). bitAt h i && not b || b && b) (no-bit n i l) ∙ kept (bitAt h i))
-  where
-    kept : (x : Bool) → (x && true || false) ≡ x
-    kept true = refl
-    kept false = refl
+no-rewrite-keeps n h f = overwritten-none n h f _ (no-bits n)

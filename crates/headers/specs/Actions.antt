@@ -4,7 +4,7 @@ use mathlib.Core.Option.{Option, some, bind}
 use Prim.Native.Nat.{ℕ, zero, suc}
 use lib.Dec.{eqb}
 use Rattle.headers.specs.Bits.{word, words}
-use Rattle.headers.specs.Sets.{Header, Set, Rewrite, intersection, rewritten, undone, noRewrite}
+use Rattle.headers.specs.Sets.{Header, Set, Rewrite, intersection, rewritten, undone, noRewrite, rewriteBeside}
 use Rattle.headers.specs.declared.Transfer.{Transfer}
 use Rattle.headers.specs.declared.Transfer.the-variants.{Keep, Copy, Swap}
 
@@ -44,6 +44,14 @@ acted n a h = rewritten n (a .rewrite) (transferred n (a .transfer) h)
 -- H8: the action that leaves every header as it is
 abbrev pub noAction : ℕ → Act
 noAction n = record { transfer = Keep; rewrite = noRewrite n }
+
+-- an action, and a rewrite of more words
+abbrev pub actBeside : Act → Rewrite → Act
+actBeside a r = record { transfer = a .transfer; rewrite = rewriteBeside (a .rewrite) r }
+
+-- an action that leaves k more words as they are
+abbrev pub paddedAct : ℕ → Act → Act
+paddedAct k a = actBeside a (noRewrite k)
 
 -- ---- undoing
 

@@ -5,7 +5,7 @@ use mathlib.Core.Option.{some, none, bind}
 use mathlib.Core.Path.{_≡_, refl}
 use Prim.Native.Nat.{ℕ}
 use Rattle.headers.specs.Bits.{bit, bitAt, positions, those, setBits, single, firstSet, firstBit}
-use Rattle.headers.specs.Sets.{Header, Set, allWild, intersection, undone}
+use Rattle.headers.specs.Sets.{Header, Set, allWild, beside, padded, intersection, undone}
 use Rattle.headers.specs.Actions.{Act, unacted, before}
 use Rattle.headers.specs.declared.Transfer.the-variants.{Keep}
 use Rattle.headers.specs.Carving.{partsAt, parts, carve, within}
@@ -75,3 +75,17 @@ that-source = refl
 whole-exit-traced : before 4 (allWild 4) (setTpDst 5) (allWild 4) ≡ some (allWild 4)
 unfolding computing
 whole-exit-traced = refl
+
+-- ---- more words: document 02, 2.6
+
+-- four more words, all of them wild, come last
+four-more : padded 4 (tpDst 80) ≡ record { care = 0 ∷ 0 ∷ 0xffff ∷ 0 ∷ 0 ∷ 0 ∷ 0 ∷ 0 ∷ []; value = 0 ∷ 0 ∷ 80 ∷ 0 ∷ 0 ∷ 0 ∷ 0 ∷ 0 ∷ [] }
+four-more = refl
+
+-- where no bit of word 3 is free, the first part is carved in word 4
+carved-in-word-4 : carve 8 (padded 4 (tpDst 80)) (beside (tpDst 80) (record { care = header 3 0 0 0; value = header 1 0 0 0 }))
+    ≡ beside (tpDst 80) (record { care = header 2 0 0 0; value = header 2 0 0 0 })
+    ∷ beside (tpDst 80) (record { care = header 3 0 0 0; value = header 0 0 0 0 })
+    ∷ []
+unfolding bit bitAt positions those setBits single partsAt parts carve
+carved-in-word-4 = refl

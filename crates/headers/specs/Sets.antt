@@ -1,6 +1,6 @@
 -- Header sets and rewrites over n words: document 01, "Header sets". Assumes nothing.
 use mathlib.Core.Bool.{Bool, true, false, cond}
-use mathlib.Core.List.{List}
+use mathlib.Core.List.{List, _++_}
 use mathlib.Core.Option.{Option, some, none}
 use mathlib.Core.Path.{_≡_}
 use Prim.Native.Nat.{ℕ, _*_, _<_}
@@ -75,6 +75,23 @@ allWild n = record { care = words n (λ w. 0); value = words n (λ w. 0) }
 -- the rewrite that masks no bit
 abbrev pub noRewrite : ℕ → Rewrite
 noRewrite n = record { mask = words n (λ w. 0); value = words n (λ w. 0) }
+
+-- ---- more words: document 02, 2.6
+
+-- two sets side by side: the words of the first, then those of the second
+abbrev pub beside : Set → Set → Set
+beside a b = record { care = a .care ++ b .care; value = a .value ++ b .value }
+
+abbrev pub rewriteBeside : Rewrite → Rewrite → Rewrite
+rewriteBeside a b = record { mask = a .mask ++ b .mask; value = a .value ++ b .value }
+
+-- a set with k more words, all of them wild
+abbrev pub padded : ℕ → Set → Set
+padded k s = beside s (allWild k)
+
+-- a rewrite that leaves k more words as they are
+abbrev pub paddedRewrite : ℕ → Rewrite → Rewrite
+paddedRewrite k r = rewriteBeside r (noRewrite k)
 
 -- ---- intersection
 

@@ -6,7 +6,7 @@ ghost use Prim.Native.Nat.{_-_, _^_, _<_};
 ghost use lib.Count.{leadingZeros};
 ghost use Rattle.headers.specs.Bits.{noBit, firstBit};
 ghost use Rattle.headers.specs.Sets.{agree, overwritten, outside, both, either, contains, tidy, overlaps, joined, intersection};
-ghost use Rattle.headers.specs.Sets.{widened, undone, lowest, allWild, writes};
+ghost use Rattle.headers.specs.Sets.{rewritten, widened, undone, lowest, allWild, writes};
 ghost use Rattle.headers.specs.Actions.{moved, copied, swapped, transferred, acted, movedSet, uncopied, untransferred, metBefore};
 ghost use Rattle.headers.specs.Actions.{before, noAction};
 ghost use Rattle.headers.specs.Carving.{free, turned, taking};
@@ -250,6 +250,15 @@ impl Action {
         let m = self.mask;
         let v = self.value;
         overwritten(m, v, transferred(transfer, h))
+    }
+
+    // The words with masked bits as the value's.
+    pub fn written(self, h: [u32; 4]) -> [u32; 4]
+        ensures { λ r. ⌜ r ≡ rewritten 4 (rewriteOf self) h ⌝ }
+    {
+        let m = self.mask;
+        let v = self.value;
+        overwritten(m, v, h)
     }
 
     // The headers of a match that this action takes into t: what it does last is undone first.

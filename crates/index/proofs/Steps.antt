@@ -7,7 +7,7 @@ use native.Mathlib.Decide.{ℕ-discrete}
 use native.Mathlib.Omega.{arith}
 use lib.ListN.{getD, set, length-set}
 use lib.Seq.{getD-set-same, getD-set-other}
-use Rattle.records.specs.Records.{entryPriority, entryIn, entryOut}
+use Rattle.records.specs.Records.{widthIn, entryPriority, entryIn, entryOut}
 use Rattle.records.specs.declared.Shape.{Shape}
 use Rattle.file.specs.Accepted.{Accepted}
 use Rattle.file.proofs.Accepted.{few-entries}
@@ -45,7 +45,7 @@ module _ (f : List ℕ) (s : Shape) (ok : Accepted f s) (cells : List ℕ) where
   }
 
   -- entry e, with the bytes x, goes to the front of the chains of its ports, which leaves `one` and then `two`, and its priority is stored
-  pub partly-more : (e : ℕ) (x : List ℕ) → EntryRead (fabricIn f) e x
+  pub partly-more : (e : ℕ) (x : List ℕ) → EntryRead (widthIn f) (fabricIn f) e x
       → (out into rank : ℕ) → out ≡ entryOut x → into ≡ entryIn x → rank ≡ entryPriority x
       → (one two : List ℕ) → one ≡ pushed cells (firstOut + out) (nextOut + e) e → two ≡ pushed one (firstIn + into) (nextIn + e) e
       → Partly f (suc e) cells → Partly f e (set two (ranks + e) rank)

@@ -22,6 +22,12 @@ left-words : packetWords old (left 12 (1 ∷ 6 ∷ 8 ∷ 9 ∷ []) (2 ∷ 4 ∷ 
 unfolding sixteen fateOf portOf headerOf takenBy packetWords
 left-words = refl
 
+-- the same with a header of eight words
+wide-words : packetWords old (left 12 (1 ∷ 6 ∷ 8 ∷ 9 ∷ 2 ∷ 3 ∷ 4 ∷ 256 ∷ []) (2 ∷ 4 ∷ 5 ∷ []))
+    ≡ 0 ∷ 0 ∷ 12 ∷ 3 ∷ 1 ∷ 6 ∷ 8 ∷ 9 ∷ 2 ∷ 3 ∷ 4 ∷ 256 ∷ 5 ∷ 4 ∷ 2 ∷ replicate 13 0
+unfolding sixteen fateOf portOf headerOf takenBy packetWords
+wide-words = refl
+
 -- dropped at port 12 by entry 5
 dropped-words : packetWords old (dropped 12 (1 ∷ 6 ∷ 8 ∷ 9 ∷ []) (5 ∷ []))
     ≡ 1 ∷ 0 ∷ 12 ∷ 1 ∷ 1 ∷ 6 ∷ 8 ∷ 9 ∷ 5 ∷ replicate 15 0

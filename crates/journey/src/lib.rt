@@ -1,14 +1,17 @@
 // A packet on its way: document 01, "Forwarding".
 use records::Shape;
+use wide::WideHeader;
 ghost use mathlib.Core.Path.{_≡_};
-ghost use Prim.Native.Nat.{_≤_, _<_};
+ghost use Prim.Native.Nat.{_*_, _≤_, _<_};
 ghost use lib.ListN.{length};
-ghost use Rattle.answer.specs.Answer.{writtenAt};
+ghost use Rattle.answer.specs.Answer.{answerWords, writtenAt};
+ghost use Rattle.records.specs.Records.{Width};
+ghost use Rattle.wide.specs.Forms.{wordsOf};
 ghost use Rattle.questions.specs.Tables.{StartTable};
 ghost use Rattle.file.specs.Accepted.{Accepted};
 ghost use Rattle.forwarding.specs.Run.{missFate, run};
-ghost use Rattle.model.specs.Model.{fabricIn};
-ghost use Rattle.journey.specs.Journey.{journeyOf, journeyWords, Hopped};
+ghost use Rattle.model.specs.Model.{fabricIn, wideIn};
+ghost use Rattle.journey.specs.Journey.{IsJourney, journeyWords, Hopped};
 
 // The fates.
 const LEFT: u32 = 0;
@@ -26,7 +29,7 @@ pub struct Journey {
     pub fate: u32,
     pub port: u32,
     pub hops: usize,
-    pub header: [u32; 4],
+    pub header: WideHeader,
     pub entries: [u32; 16],
 }
 
@@ -66,7 +69,7 @@ fn hop(file: &[u8], shape: Shape, starts: &[u16; 4096], j: Journey) -> Journey
     requires { ⌜ Accepted (now file) shape ⌝ }
     requires { ⌜ StartTable (now file) (shape .edges) (shape .links) (now starts) ⌝ }
     requires { ⌜ j .hops < 16 ⌝ }
-    ensures { λ r. ⌜ Hopped (fabricIn (now (file .entry))) j r ⌝ }
+    ensures { λ r. ⌜ Hopped (wideIn (now (file .entry))) j r ⌝ }
 {
     if j.fate != TRAVELLING {
         return j;
@@ -99,7 +102,8 @@ fn hop(file: &[u8], shape: Shape, starts: &[u16; 4096], j: Journey) -> Journey
     entries[n] = e as u32;
     let x = file::entry(file, shape, e);
     let o = records::out_port(x);
-    let after = records::action(x).apply(header);
+    let w = shape.words;
+    let after = wide::applied(x, records::rewrite_at(w), w, records::transfer(x), header);
     if o == 0 {
         return Journey {
             fate: DROPPED,
@@ -135,12 +139,12 @@ pub fn travel(
     starts: &[u16; 4096],
     start: u32,
     limit: usize,
-    header: [u32; 4],
+    header: WideHeader,
 ) -> Journey
     requires { ⌜ Accepted (now file) shape ⌝ }
     requires { ⌜ StartTable (now file) (shape .edges) (shape .links) (now starts) ⌝ }
     requires { ⌜ limit ≤ 16 ⌝ }
-    ensures { λ r. ⌜ r ≡ journeyOf (fabricIn (now (file .entry))) (run (fabricIn (now (file .entry))) limit start header) ⌝ }
+    ensures { λ r. ⌜ IsJourney (wideIn (now (file .entry))) (run (wideIn (now (file .entry))) limit start (wordsOf header)) r ⌝ }
 {
     let mut j = Journey {
         fate: TRAVELLING,
@@ -157,16 +161,17 @@ pub fn travel(
     j
 }
 
-// The 24 words of a run's answer.
-pub fn put(area: &mut [u8], j: Journey)
-    requires { ⌜ 96 ≤ length (now area) ⌝ }
+// The words of a run's answer, of headers of w words.
+pub fn put(area: &mut [u8], w: usize, j: Journey)
+    requires { ⌜ Width w ⌝ }
+    requires { ⌜ 4 * answerWords w ≤ length (now area) ⌝ }
     requires { ⌜ j .hops ≤ 16 ⌝ }
-    ensures { λ _. ⌜ now (area .exit) ≡ writtenAt 0 (journeyWords j) (now (area .entry)) ⌝ }
+    ensures { λ _. ⌜ now (area .exit) ≡ writtenAt 0 (journeyWords w j) (now (area .entry)) ⌝ }
 {
     let first = [j.fate, 0, j.port, j.hops as u32];
     let header = j.header;
     let entries = j.entries;
     answer::put_words(area, 0, &first);
-    answer::put_words(area, 4, &header);
-    answer::put_words(area, 8, &entries);
+    answer::put_header(area, 4, w, header);
+    answer::put_words(area, 4 + w, &entries);
 }

@@ -12,7 +12,7 @@ use Rattle.headers.specs.Bits.{positions, those}
 use Rattle.headers.specs.Sets.{Set}
 use Rattle.forwarding.specs.Fabric.{inPortOf}
 use Rattle.forwarding.specs.Trace.{Event, stop, carved, atInPort, isInPort, lostAt, lostTrace}
-use Rattle.model.specs.Model.{shapeIn, edgeAt, fabricOf, fabricIn}
+use Rattle.model.specs.Model.{shapeIn, edgeAt, fabricOf, fabricIn, wideIn}
 use Rattle.model.proofs.Shapes.{ports-are}
 use Rattle.index.specs.Index.{placeAt, firstIn}
 use Rattle.index.proofs.Chained.{Next}
@@ -28,7 +28,7 @@ use Rattle.backtrace.proofs.Tracings.{after-call}
 use Rattle.losses.specs.Losses.{lostEvents}
 
 -- the index has a place for just the ports where a packet can stand
-place-there : (f : List ℕ) (x : ℕ) → isInPort (fabricIn f) x ≡ ltb 0 (placeAt f x)
+place-there : (f : List ℕ) (x : ℕ) → isInPort (wideIn f) x ≡ ltb 0 (placeAt f x)
 unfolding placeAt fabricIn fabricOf
 place-there f x = go (ltb 0 (edgeAt f (shapeIn f) x))
   where
@@ -38,22 +38,22 @@ place-there f x = go (ltb 0 (edgeAt f (shapeIn f) x))
 
 -- the in-ports from a port on
 abbrev in-ports : List ℕ → ℕ → List ℕ
-in-ports f port = from (isInPort (fabricIn f)) 4096 port
+in-ports f port = from (isInPort (wideIn f)) 4096 port
 
 -- what is lost at a port is the asked set, tried against all its entries
 lost-here : (f : List ℕ) (x hops : ℕ) (path : List ℕ) (t : Set) → path ≡ []
-    → eventsFrom f x 0 0 hops path t ≡ lostAt (fabricIn f) (stop (fabricIn f) hops) t x
+    → eventsFrom f x 0 0 hops path t ≡ lostAt (wideIn f) (stop (wideIn f) hops) t x
 unfolding eventsFrom lostAt
 lost-here f x hops path t none =
-    ap₂ (λ (p bs : List ℕ). carved (fabricIn f) (atInPort (fabricIn f) (stop (fabricIn f) hops) x p) bs t) none
-    (all-ranked (fabricIn f) x)
+    ap₂ (λ (p bs : List ℕ). carved (wideIn f) (atInPort (wideIn f) (stop (wideIn f) hops) x p) bs t) none
+    (all-ranked (wideIn f) x)
 
 -- come to a port: what is left to be played is what was to be played at first
 pub record AtPort (f ask index : List ℕ) (t : Set) (counters₀ area₀ : List ℕ) (port : ℕ)
     (path counters area : List ℕ) : Type 0 where
   pub tracing : Tracing f ask index 16 path counters area
   pub area-long : length area ≡ length area₀
-  pub left : run f ask (flatMap (lostAt (fabricIn f) (stop (fabricIn f) (16 - floorOf ask)) t) (in-ports f port)) counters area
+  pub left : run f ask (flatMap (lostAt (wideIn f) (stop (wideIn f) (16 - floorOf ask)) t) (in-ports f port)) counters area
       ≡ run f ask (lostEvents f (16 - floorOf ask) t) counters₀ area₀
 
 pub ports-begin : {f ask index path counters area : List ℕ} {t : Set} → Tracing f ask index 16 path counters area
@@ -63,8 +63,8 @@ ports-begin {f} {ask} {index} {path} {counters} {area} {t} x = record {
   tracing = x;
   area-long = refl;
   left = ap (λ (n : ℕ). run f ask
-      (flatMap (lostAt (fabricIn f) (stop (fabricIn f) (16 - floorOf ask)) t)
-      (those (isInPort (fabricIn f)) (positions n 0))) counters area)
+      (flatMap (lostAt (wideIn f) (stop (wideIn f) (16 - floorOf ask)) t)
+      (those (isInPort (wideIn f)) (positions n 0))) counters area)
       (sym (ports-are f));
 }
 
@@ -74,20 +74,20 @@ module _ {f ask index : List ℕ} {t : Set} {counters₀ area₀ : List ℕ} {po
   hops = 16 - floorOf ask
 
   abbrev of-port : ℕ → List Event
-  of-port y = lostAt (fabricIn f) (stop (fabricIn f) hops) t y
+  of-port y = lostAt (wideIn f) (stop (wideIn f) hops) t y
 
   -- no port is left
   pub ports-end : 4096 ≤ port → Traced f ask (lostEvents f hops t) counters₀ area₀ 0 counters area
   unfolding play flatMap
   ports-end l = record {
     played = ap (λ (ps : List ℕ). run f ask (flatMap of-port ps) counters area)
-        (sym (from-end (isInPort (fabricIn f)) 4096 port l)) ∙ x .left;
+        (sym (from-end (isInPort (wideIn f)) 4096 port l)) ∙ x .left;
     counters-long = x .tracing .room .counters-long;
   }
 
   -- the first of a port's entries
   pub first-there : port < 4096 → {first : ℕ} → first ≡ getD index (firstIn + port) 0
-      → Next (inPortOf (fabricIn f)) (fabricIn f .entries) port 0 first
+      → Next (inPortOf (wideIn f)) (wideIn f .entries) port 0 first
   first-there l {first} g = chain-head (entries-few (x .tracing .asked .fabric)) (x .tracing .indexed .by-in-port) port first l g
 
   module _ (l : port < 4096) {place : ℕ} (read : place ≡ getD index port 0) where
@@ -101,7 +101,7 @@ module _ {f ask index : List ℕ} {t : Set} {counters₀ area₀ : List ℕ} {po
       area-long = x .area-long;
       left =
           ap (λ (ps : List ℕ). run f ask (flatMap of-port ps) counters area)
-          (sym (from-skip (isInPort (fabricIn f)) 4096 port (port + 1) (omega arith)
+          (sym (from-skip (isInPort (wideIn f)) 4096 port (port + 1) (omega arith)
           (λ c a b m. let here : c ≡ port = omega arith in rw here (place-there f port ∙ ap (ltb 0) (place-is ∙ z)))))
           ∙ x .left;
     }
@@ -121,7 +121,7 @@ module _ {f ask index : List ℕ} {t : Set} {counters₀ area₀ : List ℕ} {po
       unfolding flatMap
       with-later =
           ap (λ (ps : List ℕ). run f ask (flatMap of-port ps) counters area)
-          (sym (from-here (isInPort (fabricIn f)) 4096 port l
+          (sym (from-here (isInPort (wideIn f)) 4096 port l
           (place-there f port ∙ lt-ltb 0 (placeAt f port) (low (placeAt f port) place-is))))
           ∙ x .left
         where

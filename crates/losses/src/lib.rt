@@ -1,13 +1,12 @@
 // The packets that are lost, traced back from every port where a packet can stand (specs/Losses.antt): what the entries there leave of the
 // asked set goes on as any part does, by stop and carving.
-use backtrace::BASE;
 use backtrace::Passed;
-use headers::HeaderSet;
 use index::CELLS;
 use records::Shape;
+use wide::WideSet;
 ghost use mathlib.Core.Path.{_≡_};
 ghost use Prim.Native.Nat.{_-_, _≤_};
-ghost use Rattle.headers.specs.Forms.{setOf};
+ghost use Rattle.wide.specs.Forms.{wideOf};
 ghost use Rattle.file.specs.Accepted.{Accepted};
 ghost use Rattle.index.specs.Index.{Index};
 ghost use Rattle.events.specs.Asked.{floorOf};
@@ -24,26 +23,25 @@ const ANY_PRIORITY: u32 = 0;
 // T18: the asked set t carved by all entries of each edge port and link's end, in rising number of the ports. The path is empty.
 fn lost_ports(
     file: &[u8],
-    ask: &[u32; 6],
+    ask: &[u32; 7],
     index: &[u16; CELLS],
     area: &mut [u8],
-    t: HeaderSet,
+    t: WideSet,
     path: &mut [u32; 16],
     counters: &mut [u64; 2],
 ) -> u32
     requires { ⌜ Tracing (now file) (now ask) (now index) 16 (now path) (now counters) (now area) ⌝ }
     ensures { λ r. ⌜ Traced (now (file .entry)) (now (ask .entry))
-        (lostEvents (now (file .entry)) (16 - floorOf (now (ask .entry))) (setOf t))
+        (lostEvents (now (file .entry)) (16 - floorOf (now (ask .entry))) (wideOf t))
         (now (counters .entry)) (now (area .entry)) r (now (counters .exit)) (now (area .exit)) ⌝ }
 {
-    let base = events::asked(ask, BASE);
     let mut port: usize = 0;
     while port < PORTS {
         let place = index::place_at(index, port);
         let next = port + 1;
         if place != 0 {
             let first = index::first_in(index, port);
-            let b = trials::next_met(file, ask, base, index, ANY_PRIORITY, first, t, counters);
+            let b = trials::next_met(file, ask, index, ANY_PRIORITY, first, t, counters);
             let r = backtrace::descend(
                 file,
                 ask,
@@ -74,16 +72,24 @@ pub fn lost_pass(
     index: &[u16; CELLS],
     limit: u32,
     budget: u32,
-    asked: HeaderSet,
+    asked: WideSet,
 ) -> Passed
     requires { ⌜ Accepted (now file) shape ⌝ }
     requires { ⌜ Index (now file) (now index) ⌝ }
     requires { ⌜ (1 ≤ limit) × (limit ≤ 16) ⌝ }
     ensures { λ r. ⌜ playedThen r (now (area .exit))
-        ≡ lostPassOf (now (file .entry)) limit budget (setOf asked) (now (area .entry)) ⌝ }
+        ≡ lostPassOf (now (file .entry)) limit budget (wideOf asked) (now (area .entry)) ⌝ }
 {
     let base = backtrace::entries_at(file, shape);
-    let ask = [budget, events::LIST, 17 - limit, 0, 0, base];
+    let ask = [
+        budget,
+        events::LIST,
+        17 - limit,
+        0,
+        0,
+        base,
+        shape.words as u32,
+    ];
     let mut path = [0u32; 16];
     let mut counters = [0u64; 2];
     let status = lost_ports(file, &ask, index, area, asked, &mut path, &mut counters);

@@ -4,7 +4,7 @@ use mathlib.Core.List.{List}
 use Prim.Native.Nat.{ℕ, zero, suc, _<_}
 use native.Mathlib.Omega.{arith}
 use lib.Dec.{ltb}
-use Rattle.records.specs.Records.{entryBytes, toOfLink}
+use Rattle.records.specs.Records.{widthIn, entryBytes, toOfLink}
 use Rattle.questions.specs.Questions.{pick}
 use Rattle.forwarding.specs.Fabric.{outPortOf}
 use Rattle.model.specs.Model.{shapeIn, under, entryFrom, noEntry, linkBeginning, fabricOf, fabricIn}
@@ -14,7 +14,7 @@ module _ (f : List ℕ) where
   unfolding fabricIn fabricOf
   out-port-low e = go (ltb e (shapeIn f .entries))
     where
-      go : (b : Bool) → pick b (entryFrom (entryBytes f (shapeIn f) e)) noEntry .outPort < 4096
+      go : (b : Bool) → pick b (entryFrom (widthIn f) (entryBytes f (shapeIn f) e)) (noEntry (widthIn f)) .outPort < 4096
       go true = omega arith
       go false = omega arith
 

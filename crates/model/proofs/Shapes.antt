@@ -7,7 +7,7 @@ use native.Mathlib.Omega.{arith}
 use lib.Dec.{ltb, eqb}
 use borrow.Author.Tests.{lt-ltb}
 use Rattle.records.specs.Words.{wordAt, choiceOf}
-use Rattle.records.specs.Records.{edgeGroup, edgeAdmitted, portOfEdge, edgeBytes, entryBytes, recent}
+use Rattle.records.specs.Records.{widthIn, edgeGroup, edgeAdmitted, portOfEdge, edgeBytes, entryBytes, recent}
 use Rattle.records.specs.declared.Shape.{Shape}
 use Rattle.questions.specs.Questions.{pick}
 use Rattle.questions.specs.Tables.{number}
@@ -36,9 +36,9 @@ ports-are f = refl
 
 module _ (f : List ℕ) (s : Shape) where
   -- an entry reads as its own bytes say
-  pub entry-is : (e : ℕ) → e < s .entries → fabricOf f s .entry e ≡ entryFrom (entryBytes f s e)
+  pub entry-is : (e : ℕ) → e < s .entries → fabricOf f s .entry e ≡ entryFrom (widthIn f) (entryBytes f s e)
   unfolding fabricOf
-  entry-is e l = ap (λ (b : Bool). pick b (entryFrom (entryBytes f s e)) noEntry) (lt-ltb e (s .entries) l)
+  entry-is e l = ap (λ (b : Bool). pick b (entryFrom (widthIn f) (entryBytes f s e)) (noEntry (widthIn f))) (lt-ltb e (s .entries) l)
 
   module _ (ok : Accepted f s) (k : ℕ) (l : k < s .edges) where
     -- edge k stands at its port
@@ -54,9 +54,9 @@ module _ (f : List ℕ) (s : Shape) where
     unfolding fabricOf
     group-is = ap (under 0 (λ i. edgeGroup (edgeBytes f i))) edge-at
 
-    pub admitted-is : fabricOf f s .admitted (portOfEdge f k) ≡ edgeAdmitted (edgeBytes f k)
+    pub admitted-is : fabricOf f s .admitted (portOfEdge f k) ≡ edgeAdmitted (widthIn f) (edgeBytes f k)
     unfolding fabricOf
-    admitted-is = ap (under _ (λ i. edgeAdmitted (edgeBytes f i))) edge-at
+    admitted-is = ap (under _ (λ i. edgeAdmitted (widthIn f) (edgeBytes f i))) edge-at
 
   -- and an edge port is some edge's
   pub record EdgeThere (x : ℕ) : Type 0 where

@@ -9,8 +9,9 @@ use lib.Dec.{ltb}
 use borrow.Author.Tests.{lt-ltb, le-ltb}
 use Rattle.headers.specs.Sets.{WellFormed, Written, allWild}
 use Rattle.headers.proofs.Members.{all-wild-well-formed, no-bits}
-use Rattle.records.specs.Records.{headerWords, edgeAdmitted, portOfEdge, fromOfLink, toOfLink, edgeBytes, entryBytes, recent}
+use Rattle.records.specs.Records.{widthIn, edgeAdmitted, portOfEdge, fromOfLink, toOfLink, edgeBytes, entryBytes, recent}
 use Rattle.records.specs.declared.Shape.{Shape}
+use Rattle.records.proofs.Widths.{width-is}
 use Rattle.questions.specs.Questions.{pick}
 use Rattle.questions.specs.Tables.{number}
 use Rattle.questions.proofs.Lists.{number-is, number-has}
@@ -56,7 +57,7 @@ module _ (f : List ℕ) (s : Shape) (ok : Accepted f s) where
   sound-of : Sound (fabricOf f s)
   unfolding fabricOf edgeAt linkBeginning linkEnding
   sound-of = record {
-    two-words = omega arith;
+    two-words = omega (arith, width-is f .low);
     zero-no-edge = no-edge (fabricOf f s .isEdge 0) refl;
     zero-begins-none = across-none froms tos (s .links) (tos-differ f s ok) (link-from-low f s ok) 0 (no-link-at-zero froms (link-from-low f s ok));
     zero-ends-none = across-none tos froms (s .links) (froms-differ f s ok) (link-to-low f s ok) 0 (no-link-at-zero tos (link-to-low f s ok));
@@ -72,11 +73,11 @@ module _ (f : List ℕ) (s : Shape) (ok : Accepted f s) where
         (λ j l q. no-edge-at-to f s ok (d .number-then) j (d .below) l (d .port-is ∙ sym q));
     edge-below = λ x e. omega (arith, edge-there f s x e .port-is);
     end-below = λ x y. end x y (number (recent tos (s .links)) x) refl;
-    match-well-formed = λ e. by-entry (λ x. WellFormed headerWords (x .matches)) e (λ l. entry-of f s ok e l .matches) (all-wild-well-formed headerWords);
+    match-well-formed = λ e. by-entry (λ x. WellFormed (widthIn f) (x .matches)) e (λ l. entry-of f s ok e l .matches) (all-wild-well-formed (widthIn f));
     admitted-well-formed = λ x. admitted x (number (recent (portOfEdge f) (s .edges)) x) refl;
     rewrite-written = λ e.
-        by-entry (λ x. Written headerWords (x .action .rewrite)) e (λ l. entry-of f s ok e l .rewrites)
-        (record { mask = no-bits headerWords; value = no-bits headerWords });
+        by-entry (λ x. Written (widthIn f) (x .action .rewrite)) e (λ l. entry-of f s ok e l .rewrites)
+        (record { mask = no-bits (widthIn f); value = no-bits (widthIn f) });
   }
     where
       no-edge : (b : Bool) → fabricOf f s .isEdge 0 ≡ b → b ≡ false
@@ -87,17 +88,17 @@ module _ (f : List ℕ) (s : Shape) (ok : Accepted f s) where
       end x y zero d e = absurd (omega arith)
       end x y (suc i) d e = omega (arith, number-has tos (s .links) x i d .1)
 
-      by-entry : (P : Forwarding.Entry → Type 0) (e : ℕ) → (e < s .entries → P (entryFrom (entryBytes f s e))) → P noEntry
-          → P (pick (ltb e (s .entries)) (entryFrom (entryBytes f s e)) noEntry)
+      by-entry : (P : Forwarding.Entry → Type 0) (e : ℕ) → (e < s .entries → P (entryFrom (widthIn f) (entryBytes f s e))) → P (noEntry (widthIn f))
+          → P (pick (ltb e (s .entries)) (entryFrom (widthIn f) (entryBytes f s e)) (noEntry (widthIn f)))
       by-entry P e there past = go (decLt e (s .entries))
         where
-          go : Dec (e < s .entries) → P (pick (ltb e (s .entries)) (entryFrom (entryBytes f s e)) noEntry)
+          go : Dec (e < s .entries) → P (pick (ltb e (s .entries)) (entryFrom (widthIn f) (entryBytes f s e)) (noEntry (widthIn f)))
           go (yes l) = rw (lt-ltb e (s .entries) l) (there l)
           go (no l) = rw (le-ltb e (s .entries) (omega arith)) past
 
       admitted : (x m : ℕ) → number (recent (portOfEdge f) (s .edges)) x ≡ m
-          → WellFormed headerWords (under (allWild headerWords) (λ i. edgeAdmitted (edgeBytes f i)) m)
-      admitted x zero d = all-wild-well-formed headerWords
+          → WellFormed (widthIn f) (under (allWild (widthIn f)) (λ i. edgeAdmitted (widthIn f) (edgeBytes f i)) m)
+      admitted x zero d = all-wild-well-formed (widthIn f)
       admitted x (suc i) d = edge-of f s ok i (number-has (portOfEdge f) (s .edges) x i d .0) .admitted
 
 -- the fabric of an accepted file is sound

@@ -1,12 +1,15 @@
 // The entries of an accepted file that may take a header, and what befalls one that none takes. What a file's fabric is, is in
 // specs/Model.antt.
+use records::MATCH;
 use records::Shape;
+use wide::WideHeader;
 ghost use mathlib.Core.Path.{_≡_};
 ghost use Prim.Native.Nat.{ℕ, _≤_, _<_};
 ghost use lib.Dec.{leb};
+ghost use Rattle.wide.specs.Forms.{wordsOf};
 ghost use Rattle.file.specs.Accepted.{Accepted};
 ghost use Rattle.forwarding.specs.Fabric.{outranks};
-ghost use Rattle.model.specs.Model.{fabricIn};
+ghost use Rattle.model.specs.Model.{fabricIn, wideIn};
 ghost use Rattle.model.specs.Taking.{Takes, Better};
 
 // Does an entry of priority p beat one of priority q at the same in-port? The tie rule stands here, and in `least_above`, alone.
@@ -39,17 +42,17 @@ pub struct Best {
 }
 
 // The best so far with entry i, for a header h at in-port x.
-fn better(file: &[u8], shape: Shape, x: u32, h: [u32; 4], i: usize, best: Best) -> Best
+fn better(file: &[u8], shape: Shape, x: u32, h: WideHeader, i: usize, best: Best) -> Best
     requires { ⌜ Accepted (now file) shape ⌝ }
     requires { ⌜ i < shape .entries ⌝ }
     requires { ⌜ best .entry ≤ shape .entries ⌝ }
-    ensures { λ r. ⌜ Better (fabricIn (now (file .entry))) x h i best r ⌝ }
+    ensures { λ r. ⌜ Better (wideIn (now (file .entry))) x (wordsOf h) i best r ⌝ }
 {
     let e = file::entry(file, shape, i);
     if records::in_port(e) != x {
         return best;
     }
-    if !records::match_set(e).contains(h) {
+    if !wide::holds(e, MATCH, shape.words, h) {
         return best;
     }
     let at = best.entry;
@@ -77,9 +80,9 @@ fn better(file: &[u8], shape: Shape, x: u32, h: [u32; 4], i: usize, best: Best) 
 }
 
 // The entries that may take a header h at in-port x.
-pub fn taker(file: &[u8], shape: Shape, x: u32, h: [u32; 4]) -> Best
+pub fn taker(file: &[u8], shape: Shape, x: u32, h: WideHeader) -> Best
     requires { ⌜ Accepted (now file) shape ⌝ }
-    ensures { λ r. ⌜ Takes (fabricIn (now (file .entry))) x h r ⌝ }
+    ensures { λ r. ⌜ Takes (wideIn (now (file .entry))) x (wordsOf h) r ⌝ }
 {
     let n = shape.entries;
     let mut best = Best {

@@ -1,4 +1,4 @@
--- A file that is refused has a number from 1 to 7: no refusal is taken for a success. Assumes nothing.
+-- A file that is refused has a number from 1 to 7: no refusal is taken for a success.
 use mathlib.Core.Bool.{Bool, true, false}
 use mathlib.Core.List.{List, [], _∷_}
 use mathlib.Core.Path.{_≡_, subst}
@@ -6,6 +6,7 @@ use Prim.Native.Nat.{ℕ, zero, suc, _≤_}
 use native.Mathlib.Omega.{arith}
 use lib.Dec.{eqb, eqb·suc-zero}
 use Rattle.records.specs.Words.{wordsIn}
+use Rattle.records.specs.Records.{widthIn}
 use Rattle.questions.specs.Questions.{pick, Question, _asks_, firstNo, orElse, Passed, afterStart, kind, asked, passed, shapeOf}
 use Rattle.questions.specs.Questions.{inOrder, portsRight, setsTidy, linkFree, withinLimits, records, sized, started, accepted}
 use Rattle.questions.specs.declared.Read.{Read}
@@ -47,16 +48,16 @@ records-up-to (suc k) f s =
     or-else-up-to (asked f s) (s .place) _ (asked-up-to f s)
     (at-end (eqb (kind f s) 5) (records-up-to k f (passed f s)))
   where
-    at-end : (b : Bool) → NoUpTo7 (records k f (passed f s)) → NoUpTo7 (pick b (Fabric (shapeOf s)) (records k f (passed f s)))
+    at-end : (b : Bool) → NoUpTo7 (records k f (passed f s)) → NoUpTo7 (pick b (Fabric (shapeOf (widthIn f) s)) (records k f (passed f s)))
     at-end true later = tt
     at-end false later = later
 
-pub refused-number : (f : List ℕ) (number place : ℕ) → accepted f ≡ No number place → (1 ≤ number) × (number ≤ 7)
+pub refused-number : (w : ℕ) (f : List ℕ) (number place : ℕ) → accepted w f ≡ No number place → (1 ≤ number) × (number ≤ 7)
 unfolding accepted
-refused-number f number place e =
+refused-number w f number place e =
     subst NoUpTo7 e
     (or-else-up-to (firstNo first-two) 0 _ (first-no-up-to 7 first-two (omega arith, (omega arith, tt)))
     (records-up-to (wordsIn f) f afterStart))
   where
     first-two : List Question
-    first-two = 1 asks sized f ∷ 2 asks started f ∷ []
+    first-two = 1 asks sized w f ∷ 2 asks started w f ∷ []

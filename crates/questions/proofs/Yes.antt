@@ -1,4 +1,4 @@
--- What the yeses to questions 3 to 7 say of a record, kind by kind. Assumes nothing.
+-- What the yeses to questions 3 to 7 say of a record, kind by kind.
 use mathlib.Core.Bool.{Bool, true, false, not, and-true}
 use mathlib.Core.List.{List, [], _∷_}
 use mathlib.Core.Path.{_≡_, refl}
@@ -6,13 +6,14 @@ use Prim.Native.Nat.{ℕ, _+_, _≤_, _<_}
 use native.Mathlib.Omega.{arith}
 use lib.Dec.{ltb, leb, eqb}
 use borrow.Author.Tests.{ltb-true, leb-true, eqb-false, not-true}
-use Rattle.headers.specs.Sets.{tidy, writes}
+use Rattle.headers.specs.Sets.{writes}
 use Rattle.records.specs.Words.{wordAt, wordsIn, kindOf, transferOf, portOf}
-use Rattle.records.specs.Records.{headerWords, admittedAt, edgeWords, matchAt, rewriteAt, entryWords, setFrom, rewriteFrom, placeOf}
+use Rattle.records.specs.Records.{widthIn, admittedAt, edgeWords, matchAt, rewriteAt, entryWords, setFrom, rewriteFrom, placeOf, placeIn}
 use Rattle.records.specs.Records.{portOfEdge, fromOfLink, toOfLink, inOfEntry, recent}
+use Rattle.records.specs.Limits.{mostEdges, mostLinks, mostEntries, mostAtPort}
 use Rattle.records.proofs.Words.{port-range, from-range}
 use Rattle.questions.specs.Questions.{latest, elem, times, byKind, _asks_, firstNo, Passed, kind, size, zeroBits, transferKnown}
-use Rattle.questions.specs.Questions.{asked, inOrder, portsRight, setsTidy, linkFree, withinLimits}
+use Rattle.questions.specs.Questions.{clean, asked, inOrder, portsRight, setsTidy, linkFree, withinLimits}
 use Rattle.questions.specs.Reading.{passedAt}
 use Rattle.questions.proofs.Lists.{recent-long}
 use Rattle.questions.proofs.Chains.{parts}
@@ -70,15 +71,15 @@ ordered f s h =
 
 -- ---- an edge
 
--- the port of edge e is in range and above the one before; its admitted set is tidy; it is one of 64
+-- the port of edge e is in range and above the one before; its admitted set is clean; it is one of 64
 pub record EdgeIs (f : List ℕ) (e : ℕ) : Type 0 where
-  pub inside : placeOf e 0 0 + edgeWords ≤ wordsIn f
+  pub inside : placeIn f e 0 0 + edgeWords (widthIn f) ≤ wordsIn f
   pub port-low : 1 ≤ portOfEdge f e
   pub rising : latest (recent (portOfEdge f) e) < portOfEdge f e
-  pub admitted-tidy : tidy headerWords (setFrom headerWords f (placeOf e 0 0 + admittedAt)) ≡ true
-  pub limit : e < 64
+  pub admitted-clean : clean (widthIn f) (setFrom (widthIn f) f (placeIn f e 0 0 + admittedAt)) ≡ true
+  pub limit : e < mostEdges
 
-pub edge-is : (f : List ℕ) (e : ℕ) → kindOf (wordAt f (placeOf e 0 0)) ≡ 2 → Yes f (passedAt f e 0 0) → EdgeIs f e
+pub edge-is : (f : List ℕ) (e : ℕ) → kindOf (wordAt f (placeIn f e 0 0)) ≡ 2 → Yes f (passedAt f e 0 0) → EdgeIs f e
 unfolding portsRight setsTidy withinLimits passedAt
 edge-is f e k y =
     let p = portOfEdge f e in
@@ -87,14 +88,14 @@ edge-is f e k y =
       inside = simp k at (ordered f (passedAt f e 0 0) (y .order) .inside);
       port-low = leb-true _ _ (part 0);
       rising = ltb-true _ _ (part 1);
-      admitted-tidy = simp k at (y .sets);
+      admitted-clean = simp k at (y .sets);
       limit = ltb-true _ _ (simp (k, recent-long) at (y .limits));
     }
 
 -- ---- a link
 
 pub record LinkIs (f : List ℕ) (e l : ℕ) : Type 0 where
-  pub inside : placeOf e l 0 + 1 ≤ wordsIn f
+  pub inside : placeIn f e l 0 + 1 ≤ wordsIn f
   pub from-low : 1 ≤ fromOfLink f e l
   pub to-low : 1 ≤ toOfLink f e l
   pub rising : latest (recent (fromOfLink f e) l) < fromOfLink f e l
@@ -102,9 +103,9 @@ pub record LinkIs (f : List ℕ) (e l : ℕ) : Type 0 where
   pub from-free : elem (fromOfLink f e l) (recent (portOfEdge f) e) ≡ false
   pub to-free : elem (toOfLink f e l) (recent (portOfEdge f) e) ≡ false
   pub end-free : elem (toOfLink f e l) (recent (toOfLink f e) l) ≡ false
-  pub limit : l < 256
+  pub limit : l < mostLinks
 
-pub link-is : (f : List ℕ) (e l : ℕ) → kindOf (wordAt f (placeOf e l 0)) ≡ 3 → Yes f (passedAt f e l 0) → LinkIs f e l
+pub link-is : (f : List ℕ) (e l : ℕ) → kindOf (wordAt f (placeIn f e l 0)) ≡ 3 → Yes f (passedAt f e l 0) → LinkIs f e l
 unfolding portsRight linkFree withinLimits passedAt
 link-is f e l k y =
     let from = fromOfLink f e l in
@@ -128,31 +129,35 @@ link-is f e l k y =
 -- ---- an entry
 
 pub record EntryIs (f : List ℕ) (e l n : ℕ) : Type 0 where
-  pub inside : placeOf e l n + entryWords ≤ wordsIn f
+  pub inside : placeIn f e l n + entryWords (widthIn f) ≤ wordsIn f
   pub in-low : 1 ≤ inOfEntry f e l n
-  pub transfer : transferOf (wordAt f (placeOf e l n + 1)) ≤ 2
-  pub differ : inOfEntry f e l n ≡ portOf (wordAt f (placeOf e l n + 1)) → ⊥
-  pub match-tidy : tidy headerWords (setFrom headerWords f (placeOf e l n + matchAt)) ≡ true
-  pub rewrite-tidy : tidy headerWords (writes (rewriteFrom headerWords f (placeOf e l n + rewriteAt))) ≡ true
-  pub limit : n < 512
-  pub port-limit : times (inOfEntry f e l n) (recent (inOfEntry f e l) n) < 64
+  pub transfer : transferOf (wordAt f (placeIn f e l n + 1)) ≤ 2
+  pub differ : inOfEntry f e l n ≡ portOf (wordAt f (placeIn f e l n + 1)) → ⊥
+  pub match-clean : clean (widthIn f) (setFrom (widthIn f) f (placeIn f e l n + matchAt)) ≡ true
+  pub rewrite-clean : clean (widthIn f) (writes (rewriteFrom (widthIn f) f (placeIn f e l n + rewriteAt (widthIn f)))) ≡ true
+  pub limit : n < mostEntries (widthIn f)
+  pub port-limit : times (inOfEntry f e l n) (recent (inOfEntry f e l) n) < mostAtPort
 
-pub entry-is : (f : List ℕ) (e l n : ℕ) → kindOf (wordAt f (placeOf e l n)) ≡ 4 → Yes f (passedAt f e l n) → EntryIs f e l n
+pub entry-is : (f : List ℕ) (e l n : ℕ) → kindOf (wordAt f (placeIn f e l n)) ≡ 4 → Yes f (passedAt f e l n) → EntryIs f e l n
 unfolding portsRight setsTidy withinLimits passedAt
 entry-is f e l n k y =
+    let w = widthIn f in
+    let at = placeOf w e l n in
     let port = inOfEntry f e l n in
-    let out = portOf (wordAt f (placeOf e l n + 1)) in
+    let out = portOf (wordAt f (at + 1)) in
     let p = parts (leb 1 port) (not (eqb port out) ∷ []) (simp (k, port-range, and-true) at (y .ports)) in
-    let t = parts (tidy headerWords (setFrom headerWords f (placeOf e l n + matchAt))) (tidy headerWords (writes (rewriteFrom headerWords f (placeOf e l n + rewriteAt))) ∷ []) (simp k at (y .sets)) in
-    let m = parts (ltb n 512) (ltb (times port (recent (inOfEntry f e l) n)) 64 ∷ []) (simp (k, recent-long) at (y .limits)) in
+    let t = parts (clean w (setFrom w f (at + matchAt))) (clean w (writes (rewriteFrom w f (at + rewriteAt w))) ∷ [])
+    (simp k at (y .sets)) in
+    let m = parts (ltb n (mostEntries w)) (ltb (times port (recent (inOfEntry f e l) n)) mostAtPort ∷ [])
+    (simp (k, recent-long) at (y .limits)) in
     let order = ordered f (passedAt f e l n) (y .order) in
     record {
       inside = simp k at (order .inside);
       transfer = leb-true _ _ (simp k at (order .transfer));
       in-low = leb-true _ _ (p 0);
       differ = eqb-false _ _ (not-true (eqb port out) (p 1));
-      match-tidy = t 0;
-      rewrite-tidy = t 1;
+      match-clean = t 0;
+      rewrite-clean = t 1;
       limit = ltb-true _ _ (m 0);
       port-limit = ltb-true _ _ (m 1);
     }

@@ -1,14 +1,16 @@
 -- Questions 1 to 7 of document 01, "Questions asked in turn", as it asks them: the first that gets a no, with its number and place,
--- or the fabric's shape. What came before a record is a plain state, `Passed`. Assumes nothing.
+-- or the fabric's shape. What came before a record is a plain state, `Passed`. Questions 1 and 2 go by the version of the call, the others
+-- by the file's (document 02, 2.6).
 use mathlib.Core.Bool.{Bool, true, false, not, _&&_, _||_}
 use mathlib.Core.List.{List, [], _∷_}
 use Prim.Native.Nat.{ℕ, zero, suc, _+_, _%_}
 use lib.Dec.{ltb, leb, eqb}
 use lib.ListN.{length}
-use Rattle.headers.specs.Bits.{keepIf}
-use Rattle.headers.specs.Sets.{tidy, writes}
+use Rattle.headers.specs.Bits.{word, keepIf}
+use Rattle.headers.specs.Sets.{Set, tidy, writes}
 use Rattle.records.specs.Words.{wordAt, wordsIn, bits, kindOf, versionOf, countOf, transferOf, portOf, fromOf}
-use Rattle.records.specs.Records.{headerWords, admittedAt, edgeWords, matchAt, rewriteAt, entryWords, setFrom, rewriteFrom}
+use Rattle.records.specs.Records.{half, widthIn, admittedAt, edgeWords, matchAt, rewriteAt, entryWords, setFrom, rewriteFrom}
+use Rattle.records.specs.Limits.{mostEdges, mostLinks, mostEntries, mostAtPort, mostBytes}
 use Rattle.records.specs.declared.Shape.{Shape}
 use Rattle.questions.specs.declared.Read.{Read}
 use Rattle.questions.specs.declared.Read.the-variants.{Fabric, No}
@@ -76,9 +78,31 @@ isPort p = leb 1 p && leb p 4095
 abbrev pub byKind : {A : Type 0} → ℕ → A → A → A → A → A
 byKind k edge link entry end = pick (eqb k 2) edge (pick (eqb k 3) link (pick (eqb k 4) entry end))
 
+-- ---- the bits of a set
+
+-- version 2: "8 bits that must be zero in care and mask", the last eight of a word of care
+abbrev pub spareAt : ℕ → Set → Bool
+spareAt k s = eqb (bits 7 0 (word (s .care) k)) 0
+
+-- those of word 7; a set of four words has no such word, and so none of these bits
+abbrev pub spareZero : Set → Bool
+spareZero s = spareAt 7 s
+
+-- question 5 of a set of w words: "Are value bits zero outside care", and these eight bits zero?
+abbrev pub clean : ℕ → Set → Bool
+clean w s = tidy w s && spareZero s
+
+-- the same of the last four of eight words
+abbrev pub cleanHigh : Set → Bool
+cleanHigh s = tidy half s && spareAt 3 s
+
 -- ---- questions 3 to 7 of one record
 
 module _ (f : List ℕ) (s : Passed) where
+  -- the words of a header
+  abbrev pub width : ℕ
+  width = widthIn f
+
   abbrev pub at : ℕ
   at = s .place
 
@@ -93,7 +117,7 @@ module _ (f : List ℕ) (s : Passed) where
   kind = kindOf first
 
   abbrev pub size : ℕ
-  size = byKind kind edgeWords 1 entryWords 1
+  size = byKind kind (edgeWords width) 1 (entryWords width) 1
 
   -- a link's bits 27..24, an entry's between transfer and out-port, an end's rest
   abbrev pub zeroBits : Bool
@@ -120,13 +144,13 @@ module _ (f : List ℕ) (s : Passed) where
       (isPort (portOf first) && leb (portOf second) 4095 && not (eqb (portOf first) (portOf second)))
       true
 
-  -- 5. "Are value bits zero outside care, and rewrite bits outside the mask?"
+  -- 5. "Are value bits zero outside care, and rewrite bits outside the mask?" Since 2.6 also the eight bits of care and mask
   unfoldable pub setsTidy : Bool
   setsTidy =
       byKind kind
-      (tidy headerWords (setFrom headerWords f (at + admittedAt)))
+      (clean width (setFrom width f (at + admittedAt)))
       true
-      (tidy headerWords (setFrom headerWords f (at + matchAt)) && tidy headerWords (writes (rewriteFrom headerWords f (at + rewriteAt))))
+      (clean width (setFrom width f (at + matchAt)) && clean width (writes (rewriteFrom width f (at + rewriteAt width))))
       true
 
   -- 6. "Does a link avoid edge ports and end where no earlier link ends?"
@@ -138,13 +162,13 @@ module _ (f : List ℕ) (s : Passed) where
       true
       true
 
-  -- 7. "Is the record within the four limits?" "At most 64 edges, 256 links, 512 entries, 64 entries per in-port."
+  -- 7. "Is the record within the four limits?"
   unfoldable pub withinLimits : Bool
   withinLimits =
       byKind kind
-      (ltb (length (s .edges)) 64)
-      (ltb (length (s .froms)) 256)
-      (ltb (length (s .ins)) 512 && ltb (times (portOf first) (s .ins)) 64)
+      (ltb (length (s .edges)) mostEdges)
+      (ltb (length (s .froms)) mostLinks)
+      (ltb (length (s .ins)) (mostEntries width) && ltb (times (portOf first) (s .ins)) mostAtPort)
       true
 
   unfoldable pub asked : ℕ
@@ -161,11 +185,11 @@ module _ (f : List ℕ) (s : Passed) where
     ins = keepIf (eqb kind 4) (portOf first) (s .ins);
   }
 
-abbrev pub shape : ℕ → ℕ → ℕ → Shape
-shape e l n = record { edges = e; links = l; entries = n }
+abbrev pub shape : ℕ → ℕ → ℕ → ℕ → Shape
+shape w e l n = record { words = w; edges = e; links = l; entries = n }
 
-abbrev pub shapeOf : Passed → Shape
-shapeOf s = shape (length (s .edges)) (length (s .froms)) (length (s .ins))
+abbrev pub shapeOf : ℕ → Passed → Shape
+shapeOf w s = shape w (length (s .edges)) (length (s .froms)) (length (s .ins))
 
 -- "Then record by record after the start": a turn each. A record takes a word at least, so as many turns as words never run out
 -- (`step` of proofs/Steps.antt)
@@ -173,21 +197,25 @@ unfoldable pub records : ℕ → List ℕ → Passed → Read
 records zero f s = No 3 (s .place)
 records (suc k) f s =
     let later = records k f (passed f s) in
-    let next = pick (eqb (kind f s) 5) (Fabric (shapeOf s)) later in
+    let next = pick (eqb (kind f s) 5) (Fabric (shapeOf (widthIn f) s)) later in
     orElse (asked f s) (s .place) next
 
--- ---- questions 1 and 2
+-- ---- questions 1 and 2, in a call for the version whose headers have w words
 
--- 1. "Is the file's length a multiple of 4 from 8 to 40,200?"
-unfoldable pub sized : List ℕ → Bool
-sized f = eqb (length f % 4) 0 && leb 8 (length f) && leb (length f) 40200
+-- 1. "Is the file's length a multiple of 4 from 8 to 40,200?" (59,784 in version 2)
+unfoldable pub sized : ℕ → List ℕ → Bool
+sized w f = eqb (length f % 4) 0 && leb 8 (length f) && leb (length f) (mostBytes w)
 
--- Q2: word 0 is a start of version 1 with the right count; its bit 27 may be 0 or 1 (F16)
-unfoldable pub started : List ℕ → Bool
-started f = eqb (kindOf (wordAt f 0)) 1 && eqb (versionOf (wordAt f 0)) 1 && eqb (countOf (wordAt f 0)) (wordsIn f)
+abbrev pub version : ℕ → ℕ
+version w = pick (eqb w half) 1 2
+
+-- Q2: word 0 is a start with the right count and of the call's version: "a file of the other version fails question 2"; its bit 27 may be
+-- 0 or 1 (F16)
+unfoldable pub started : ℕ → List ℕ → Bool
+started w f = eqb (kindOf (wordAt f 0)) 1 && eqb (versionOf (wordAt f 0)) (version w) && eqb (countOf (wordAt f 0)) (wordsIn f)
 
 -- "A fabric is accepted if 1 to 7 all get a yes."
-unfoldable pub accepted : List ℕ → Read
-accepted f =
+unfoldable pub accepted : ℕ → List ℕ → Read
+accepted w f =
     let next = records (wordsIn f) f afterStart in
-    orElse (firstNo (1 asks sized f ∷ 2 asks started f ∷ [])) 0 next
+    orElse (firstNo (1 asks sized w f ∷ 2 asks started w f ∷ [])) 0 next

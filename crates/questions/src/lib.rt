@@ -1,18 +1,19 @@
 // The questions that document 01 asks of a fabric file: 1 and 2, of the whole, and 3 to 7, of one record after those that passed.
-// What is asked stands in specs/Questions.antt; what came before is known by counts and tables, specs/Reading.antt.
+// What is asked stands in specs/Questions.antt; what came before is known by counts and tables, specs/Reading.antt. hw is the words of a
+// header: in questions 1 and 2 those of the call's version, in the others those of the file's.
+use headers::HeaderSet;
 use records::ADMITTED;
-use records::EDGE;
-use records::ENTRY;
+use records::HALF;
 use records::MATCH;
-use records::REWRITE;
 use records::Shape;
 ghost use mathlib.Core.List.{[], _∷_};
 ghost use mathlib.Core.Path.{_≡_};
 ghost use Prim.Native.Nat.{_+_, _≤_};
-ghost use Rattle.headers.specs.Sets.{tidy};
+ghost use Rattle.headers.specs.Forms.{setOf};
 ghost use Rattle.records.specs.Words.{wordsIn};
-ghost use Rattle.records.specs.Records.{headerWords, setWords, setFrom, placeOf, portOfEdge, fromOfLink, inOfEntry, recent};
-ghost use Rattle.questions.specs.Questions.{pick, latest, firstNo, _asks_, sized, started};
+ghost use Rattle.records.specs.Records.{Width, widthIn, setWords, setFrom, placeIn, portOfEdge, fromOfLink, inOfEntry, recent};
+ghost use Rattle.records.specs.Limits.{mostEntries, mostBytes};
+ghost use Rattle.questions.specs.Questions.{pick, latest, firstNo, _asks_, clean, cleanHigh, version, sized, started};
 ghost use Rattle.questions.specs.Tables.{Counts, EdgeTable, EndTable};
 ghost use Rattle.questions.specs.Reading.{Bounded, Here, askedAt, endsAt};
 
@@ -20,6 +21,27 @@ ghost use Rattle.questions.specs.Reading.{Bounded, Here, askedAt, endsAt
 pub enum Read {
     Fabric(Shape),
     No(u32, u32),
+}
+
+// ---- what the version says
+
+fn version(hw: usize) -> u32
+    ensures { λ r. ⌜ r ≡ version hw ⌝ }
+{
+    if hw == HALF { 1 } else { 2 }
+}
+
+fn most_entries(hw: usize) -> usize
+    ensures { λ r. ⌜ r ≡ mostEntries hw ⌝ }
+{
+    if hw == HALF { 512 } else { 400 }
+}
+
+fn most_bytes(hw: usize) -> usize
+    requires { ⌜ Width hw ⌝ }
+    ensures { λ r. ⌜ r ≡ mostBytes hw ⌝ }
+{
+    if hw == HALF { 40200 } else { 59784 }
 }
 
 // ---- questions in turn
@@ -40,28 +62,42 @@ fn first_no(q3: bool, q4: bool, q5: bool, q6: bool, q7: bool) -> u32
 
 // ---- questions 3 to 7 of one record
 
-// Are the value bits of the set from word k on zero outside care?
-fn tidy_at(file: &[u8], k: usize) -> bool
-    requires { ⌜ k + setWords ≤ wordsIn (now file) ⌝ }
-    ensures { λ r. ⌜ r ≡ tidy headerWords (setFrom headerWords (now (file .entry)) k) ⌝ }
+// Of the last four of eight words: are value bits zero outside care, and the last eight bits of care?
+pub fn clean_high(s: HeaderSet) -> bool
+    ensures { λ r. ⌜ r ≡ cleanHigh (setOf s) ⌝ }
 {
-    records::set_at(file, k).is_tidy()
+    let c = s.care;
+    s.is_tidy() & (c[3] % 256 == 0)
+}
+
+// The same of the set of hw words from word k on.
+fn clean_at(file: &[u8], k: usize, hw: usize) -> bool
+    requires { ⌜ k + setWords hw ≤ wordsIn (now file) ⌝ }
+    requires { ⌜ Width hw ⌝ }
+    ensures { λ r. ⌜ r ≡ clean hw (setFrom hw (now (file .entry)) k) ⌝ }
+{
+    let tidy = records::low_at(file, k, hw).is_tidy();
+    if hw == HALF {
+        return tidy;
+    }
+    tidy & clean_high(records::high_at(file, k, hw))
 }
 
 // An edge with first word w, after e edges, of which the last has the port `last`.
-pub fn edge_no(file: &[u8], at: usize, w: u32, last: u32, e: usize) -> u32
+pub fn edge_no(file: &[u8], hw: usize, at: usize, w: u32, last: u32, e: usize) -> u32
+    requires { ⌜ hw ≡ widthIn (now file) ⌝ }
     requires { ⌜ Here (now file) e 0 0 2 w ⌝ }
-    requires { ⌜ at ≡ placeOf e 0 0 ⌝ }
+    requires { ⌜ at ≡ placeIn (now file) e 0 0 ⌝ }
     requires { ⌜ last ≡ latest (recent (portOfEdge (now file)) e) ⌝ }
     ensures { λ r. ⌜ r ≡ askedAt (now (file .entry)) e 0 0 ⌝ }
 {
-    if file.len() / 4 - at < EDGE {
+    if file.len() / 4 - at < records::edge_words(hw) {
         return 3;
     }
     let port = records::port_of(w);
     let ports = (1 <= port) & (last < port);
-    let tidy = tidy_at(file, at + ADMITTED);
-    first_no(true, ports, tidy, true, e < 64)
+    let clean = clean_at(file, at + ADMITTED, hw);
+    first_no(true, ports, clean, true, e < 64)
 }
 
 // A link with the word w, after e edges and l links, of which the last has the from-port `last`.
@@ -93,6 +129,7 @@ pub fn link_no(
 // An entry with first word w, after e edges, l links and n entries.
 pub fn entry_no(
     file: &[u8],
+    hw: usize,
     at: usize,
     w: u32,
     e: usize,
@@ -100,12 +137,13 @@ pub fn entry_no(
     n: usize,
     counts: &[u8; 4096],
 ) -> u32
+    requires { ⌜ hw ≡ widthIn (now file) ⌝ }
     requires { ⌜ Here (now file) e l n 4 w ⌝ }
-    requires { ⌜ at ≡ placeOf e l n ⌝ }
+    requires { ⌜ at ≡ placeIn (now file) e l n ⌝ }
     requires { ⌜ Counts (recent (inOfEntry (now file) e l) n) (now counts) ⌝ }
     ensures { λ r. ⌜ r ≡ askedAt (now (file .entry)) e l n ⌝ }
 {
-    if file.len() / 4 - at < ENTRY {
+    if file.len() / 4 - at < records::entry_words(hw) {
         return 3;
     }
     let second = records::word(file, at + 1);
@@ -113,9 +151,9 @@ pub fn entry_no(
     let zero = records::rank_of(second) == 0;
     let known = records::transfer_of(second) <= 2;
     let ports = (1 <= port) & (port != records::port_of(second));
-    let tidy = tidy_at(file, at + MATCH) & tidy_at(file, at + REWRITE);
-    let within = (n < 512) & (counts[port as usize] < 64);
-    first_no(zero & known, ports, tidy, true, within)
+    let clean = clean_at(file, at + MATCH, hw) & clean_at(file, at + records::rewrite_at(hw), hw);
+    let within = (n < most_entries(hw)) & (counts[port as usize] < 64);
+    first_no(zero & known, ports, clean, true, within)
 }
 
 // Does the end stand at this place, as the last word?
@@ -132,20 +170,21 @@ pub fn ends_at(file: &[u8], at: usize) -> bool
 
 // ---- the whole file
 
-// Question 1: a length that is a multiple of 4 from 8 to 40,200.
-pub fn sized(file: &[u8]) -> bool
-    ensures { λ r. ⌜ r ≡ sized (now (file .entry)) ⌝ }
+// Question 1: a length that is a multiple of 4 from 8 to the most of the call's version.
+pub fn sized(file: &[u8], hw: usize) -> bool
+    requires { ⌜ Width hw ⌝ }
+    ensures { λ r. ⌜ r ≡ sized hw (now (file .entry)) ⌝ }
 {
     let len = file.len();
-    (len % 4 == 0) & (8 <= len) & (len <= 40200)
+    (len % 4 == 0) & (8 <= len) & (len <= most_bytes(hw))
 }
 
-// Question 2: a start of version 1 with the right count.
-pub fn started(file: &[u8]) -> bool
+// Question 2: a start of the call's version with the right count.
+pub fn started(file: &[u8], hw: usize) -> bool
     requires { ⌜ Bounded (now file) ⌝ }
-    ensures { λ r. ⌜ r ≡ started (now (file .entry)) ⌝ }
+    ensures { λ r. ⌜ r ≡ started hw (now (file .entry)) ⌝ }
 {
     let w = records::word(file, 0);
     let count = records::count_of(w) as usize;
-    (records::kind_of(w) == 1) & (records::version_of(w) == 1) & (count == file.len() / 4)
+    (records::kind_of(w) == 1) & (records::version_of(w) == version(hw)) & (count == file.len() / 4)
 }

@@ -1,16 +1,16 @@
 -- Words of the file and of a part of it: each fits 32 bits, and the words of a part are the file's. Assumes nothing.
 use mathlib.Core.Bool.{true}
 use mathlib.Core.List.{List, [], _∷_}
-use mathlib.Core.Path.{_≡_, refl, sym, ap, ap₂, _∙_}
-use Prim.Native.Nat.{ℕ, zero, suc, _+_, _*_, _^_, _≤_, _<_}
+use mathlib.Core.Path.{_≡_, sym, ap, _∙_}
+use Prim.Native.Nat.{ℕ, _+_, _*_, _^_, _≤_, _<_}
 use native.Mathlib.Nat.{add-zero, add-assoc}
 use native.Mathlib.Omega.{arith}
 use lib.Dec.{leb}
 use borrow.Author.Tests.{le-leb}
 use lib.ListN.{length, getD, drop, length-take, length-drop}
 use lib.Seq.{getD-take, getD-drop}
-use Rattle.headers.specs.Bits.{words, Words}
-use Rattle.headers.proofs.Positions.{words-fit}
+use Rattle.headers.specs.Bits.{Words}
+use Rattle.headers.proofs.Positions.{words-fit, words-same}
 use Rattle.records.specs.Words.{wordAt, wordsIn, wordsFrom, bytesFrom, portOf, fromOf}
 use Rattle.records.specs.Records.{setFrom}
 
@@ -57,10 +57,6 @@ module _ (n : ℕ) (f : List ℕ) (k : ℕ) where
       let e : 4 * k + j * 4 ≡ (k + j) * 4 = omega arith in
       let z : getD (bytesFrom n f k) (j * 4) 0 ≡ getD f ((k + j) * 4) 0 = part-byte (j * 4) (omega arith) ∙ ap (λ (i : ℕ). getD f i 0) e in
       rw (z, part-word-byte j 1 h (omega arith), part-word-byte j 2 h (omega arith), part-word-byte j 3 h (omega arith))
-
-words-same : (m : ℕ) (g h : ℕ → ℕ) → ((w : ℕ) → w < m → g w ≡ h w) → words m g ≡ words m h
-words-same zero g h e = refl
-words-same (suc m) g h e = ap₂ _∷_ (e 0 (omega arith)) (words-same m (λ w. g (suc w)) (λ w. h (suc w)) (λ w l. e (suc w) (omega arith)))
 
 -- a run of words of a part, and so a set of it
 module _ (n m : ℕ) (f : List ℕ) (k : ℕ) where

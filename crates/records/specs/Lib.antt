@@ -1,3 +1,4 @@
 pub mod Words
 pub mod Records
+pub mod Limits
 pub mod Examples

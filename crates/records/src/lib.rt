@@ -1,41 +1,33 @@
 // The words and the records of document 01's fabric file: a record's fields, its own bytes, and where it stands. What the bytes say
-// is in specs/Words.antt and specs/Records.antt.
-use headers::Action;
+// is in specs/Words.antt and specs/Records.antt; how many they may be, in specs/Limits.antt.
 use headers::HeaderSet;
 use headers::Transfer;
 ghost use mathlib.Core.Path.{_≡_};
 ghost use Prim.Native.Nat.{_+_, _*_, _<_, _≤_};
 ghost use lib.ListN.{length};
-ghost use Rattle.headers.specs.Forms.{formOf, actOf};
+ghost use Rattle.headers.specs.Forms.{formOf};
 ghost use Rattle.records.specs.Words.{wordAt, wordsIn, wordsFrom, bytesFrom, kindOf, transferOf, portOf, fromOf, rankOf};
 ghost use Rattle.records.specs.Words.{versionOf, countOf, choiceOf};
-ghost use Rattle.records.specs.Records.{headerWords, setWords, edgeWords, entryWords, setFrom, edgeGroup, edgePort, edgeAdmitted};
-ghost use Rattle.records.specs.Records.{entryPriority, entryIn, entryOut, entryMatch, transferAt, entryAction, placeOf};
+ghost use Rattle.records.specs.Records.{Width, widthIn, setWords, edgeWords, rewriteAt, entryWords, halfFrom, lowFrom, highFrom};
+ghost use Rattle.records.specs.Records.{edgeGroup, edgePort, entryPriority, entryIn, entryOut, transferAt, entryTransfer, placeOf};
+ghost use Rattle.records.specs.Limits.{mostWords};
 
-// How many records of each kind a file has.
+// The words of a header in a file, and how many records of each kind it has.
 pub struct Shape {
+    pub words: usize,
     pub edges: usize,
     pub links: usize,
     pub entries: usize,
 }
 
-// The words of a header, from which the widths of the records follow.
-const HEADER: usize = 4;
-
-// A care mask and a value, or a mask and a value.
-const SET: usize = 2 * HEADER;
+// The words of a header in a file of version 1; version 2 has twice as many.
+pub const HALF: usize = 4;
 
 // An edge is a word and its admitted set.
 pub const ADMITTED: usize = 1;
 
-pub const EDGE: usize = ADMITTED + SET;
-
 // An entry is two words, its match and its rewrite.
 pub const MATCH: usize = 2;
-
-pub const REWRITE: usize = MATCH + SET;
-
-pub const ENTRY: usize = REWRITE + SET;
 
 // Ports are numbers of 12 bits.
 pub const PORTS: u32 = 4096;
@@ -111,9 +103,46 @@ pub fn rank_of(w: u32) -> u32
     w / PORTS % 0x1_0000
 }
 
-pub fn header_at(file: &[u8], k: usize) -> [u32; 4]
-    requires { ⌜ k + headerWords ≤ wordsIn (now file) ⌝ }
-    ensures { λ r. ⌜ r ≡ wordsFrom headerWords (now (file .entry)) k ⌝ }
+// ---- widths, which follow from w, the words of a header
+
+// The words of a header in this file, by the version that its start says.
+pub fn width(file: &[u8]) -> usize
+    requires { ⌜ 0 < wordsIn (now file) ⌝ }
+    ensures { λ r. ⌜ r ≡ widthIn (now (file .entry)) ⌝ }
+{
+    if version_of(word(file, 0)) == 2 {
+        2 * HALF
+    } else {
+        HALF
+    }
+}
+
+pub fn edge_words(w: usize) -> usize
+    requires { ⌜ Width w ⌝ }
+    ensures { λ r. ⌜ r ≡ edgeWords w ⌝ }
+{
+    ADMITTED + 2 * w
+}
+
+pub fn rewrite_at(w: usize) -> usize
+    requires { ⌜ Width w ⌝ }
+    ensures { λ r. ⌜ r ≡ rewriteAt w ⌝ }
+{
+    MATCH + 2 * w
+}
+
+pub fn entry_words(w: usize) -> usize
+    requires { ⌜ Width w ⌝ }
+    ensures { λ r. ⌜ r ≡ entryWords w ⌝ }
+{
+    MATCH + 4 * w
+}
+
+// ---- a set of w words by its halves of four
+
+pub fn four_at(file: &[u8], k: usize) -> [u32; 4]
+    requires { ⌜ k + 4 ≤ wordsIn (now file) ⌝ }
+    ensures { λ r. ⌜ r ≡ wordsFrom 4 (now (file .entry)) k ⌝ }
 {
     [
         word(file, k),
@@ -123,24 +152,47 @@ pub fn header_at(file: &[u8], k: usize) -> [u32; 4]
     ]
 }
 
-pub fn set_at(file: &[u8], k: usize) -> HeaderSet
-    requires { ⌜ k + setWords ≤ wordsIn (now file) ⌝ }
-    ensures { λ r. ⌜ r ≡ formOf (setFrom headerWords (now (file .entry)) k) ⌝ }
+// Four words of care from word k on, and of value w words later.
+fn half_at(file: &[u8], k: usize, w: usize) -> HeaderSet
+    requires { ⌜ k + w + 4 ≤ wordsIn (now file) ⌝ }
+    ensures { λ r. ⌜ r ≡ formOf (halfFrom w (now (file .entry)) k) ⌝ }
 {
     HeaderSet {
-        care: header_at(file, k),
-        value: header_at(file, k + HEADER),
+        care: four_at(file, k),
+        value: four_at(file, k + w),
     }
+}
+
+// The first four words of the set from word k on.
+pub fn low_at(file: &[u8], k: usize, w: usize) -> HeaderSet
+    requires { ⌜ k + setWords w ≤ wordsIn (now file) ⌝ }
+    requires { ⌜ Width w ⌝ }
+    ensures { λ r. ⌜ r ≡ formOf (lowFrom w (now (file .entry)) k) ⌝ }
+{
+    half_at(file, k, w)
+}
+
+// Its last four of eight words; of a set of four words they are wild.
+pub fn high_at(file: &[u8], k: usize, w: usize) -> HeaderSet
+    requires { ⌜ k + setWords w ≤ wordsIn (now file) ⌝ }
+    requires { ⌜ Width w ⌝ }
+    ensures { λ r. ⌜ r ≡ formOf (highFrom w (now (file .entry)) k) ⌝ }
+{
+    if w == HALF {
+        return HeaderSet::all_wild();
+    }
+    half_at(file, k + HALF, w)
 }
 
 // ---- where a record stands, and its own bytes
 
 // The first word of the record after e edges, l links and n entries.
-pub fn place(e: usize, l: usize, n: usize) -> usize
-    requires { ⌜ placeOf e l n ≤ 10050 ⌝ }
-    ensures { λ r. ⌜ r ≡ placeOf e l n ⌝ }
+pub fn place(w: usize, e: usize, l: usize, n: usize) -> usize
+    requires { ⌜ Width w ⌝ }
+    requires { ⌜ placeOf w e l n ≤ mostWords ⌝ }
+    ensures { λ r. ⌜ r ≡ placeOf w e l n ⌝ }
 {
-    1 + EDGE * e + l + ENTRY * n
+    1 + edge_words(w) * e + l + entry_words(w) * n
 }
 
 // The bytes of n words from word k on.
@@ -155,31 +207,24 @@ pub fn part<'a>(file: &'a [u8], k: usize, n: usize) -> &'a [u8]
 // ---- the fields of an entry's own bytes
 
 pub fn priority(entry: &[u8]) -> u32
-    requires { ⌜ length (now entry) ≡ 4 * entryWords ⌝ }
+    requires { ⌜ 8 ≤ length (now entry) ⌝ }
     ensures { λ r. ⌜ r ≡ entryPriority (now (entry .entry)) ⌝ }
 {
     rank_of(word(entry, 0))
 }
 
 pub fn in_port(entry: &[u8]) -> u32
-    requires { ⌜ length (now entry) ≡ 4 * entryWords ⌝ }
+    requires { ⌜ 8 ≤ length (now entry) ⌝ }
     ensures { λ r. ⌜ r ≡ entryIn (now (entry .entry)) ⌝ }
 {
     port_of(word(entry, 0))
 }
 
 pub fn out_port(entry: &[u8]) -> u32
-    requires { ⌜ length (now entry) ≡ 4 * entryWords ⌝ }
+    requires { ⌜ 8 ≤ length (now entry) ⌝ }
     ensures { λ r. ⌜ r ≡ entryOut (now (entry .entry)) ⌝ }
 {
     port_of(word(entry, 1))
-}
-
-pub fn match_set(entry: &[u8]) -> HeaderSet
-    requires { ⌜ length (now entry) ≡ 4 * entryWords ⌝ }
-    ensures { λ r. ⌜ r ≡ formOf (entryMatch (now (entry .entry))) ⌝ }
-{
-    set_at(entry, MATCH)
 }
 
 // The transfer with this number.
@@ -195,36 +240,25 @@ fn transfer_at(number: u32) -> Transfer
     Transfer::Swap
 }
 
-pub fn action(entry: &[u8]) -> Action
-    requires { ⌜ length (now entry) ≡ 4 * entryWords ⌝ }
-    ensures { λ r. ⌜ actOf r ≡ entryAction (now (entry .entry)) ⌝ }
+pub fn transfer(entry: &[u8]) -> Transfer
+    requires { ⌜ 8 ≤ length (now entry) ⌝ }
+    ensures { λ r. ⌜ r ≡ entryTransfer (now (entry .entry)) ⌝ }
 {
-    Action {
-        transfer: transfer_at(transfer_of(word(entry, 1))),
-        mask: header_at(entry, REWRITE),
-        value: header_at(entry, REWRITE + HEADER),
-    }
+    transfer_at(transfer_of(word(entry, 1)))
 }
 
 // ---- the fields of an edge's own bytes
 
 pub fn port(edge: &[u8]) -> u32
-    requires { ⌜ length (now edge) ≡ 4 * edgeWords ⌝ }
+    requires { ⌜ 4 ≤ length (now edge) ⌝ }
     ensures { λ r. ⌜ r ≡ edgePort (now (edge .entry)) ⌝ }
 {
     port_of(word(edge, 0))
 }
 
 pub fn group(edge: &[u8]) -> u32
-    requires { ⌜ length (now edge) ≡ 4 * edgeWords ⌝ }
+    requires { ⌜ 4 ≤ length (now edge) ⌝ }
     ensures { λ r. ⌜ r ≡ edgeGroup (now (edge .entry)) ⌝ }
 {
     rank_of(word(edge, 0))
-}
-
-pub fn admitted(edge: &[u8]) -> HeaderSet
-    requires { ⌜ length (now edge) ≡ 4 * edgeWords ⌝ }
-    ensures { λ r. ⌜ r ≡ formOf (edgeAdmitted (now (edge .entry))) ⌝ }
-{
-    set_at(edge, ADMITTED)
 }

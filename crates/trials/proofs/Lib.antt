@@ -1,3 +1,4 @@
+pub mod Asks
 pub mod Next
 pub mod Walk
 pub mod Found

@@ -31,8 +31,8 @@ pub fn table(write: bool) -> Result<Tally, String> {
     );
     for work in works() {
         let units = work.units();
-        for call in work.calls {
-            let (work, call) = (work.name, call.name);
+        for call in work.calls() {
+            let work = work.name();
             let instructions = of_a_call(work, call)?;
             let of_a_unit = instructions as f64 / units as f64;
             let (before, mark) = match expected_of(&expected, work, call) {

@@ -6,11 +6,14 @@ const LIST: f64 = 1.25;
 const VERDICT_ON_TWENTY_DENIES: f64 = 1.0;
 const LIST_ON_TWENTY_DENIES: f64 = 1.6;
 
-/// The same, by work and call.
+/// How many times version 1's time version 2's may be, on the same fabric.
+pub const VERSION_2: f64 = 2.0;
+
+/// How much of the reference's time the product's may be, by work and call.
 pub fn most_ratio(work: &str, call: &str) -> f64 {
     match (work, call) {
-        ("twenty denies", "verdict") => VERDICT_ON_TWENTY_DENIES,
-        ("twenty denies", _) => LIST_ON_TWENTY_DENIES,
+        ("twenty denies" | "twenty denies v2", "verdict") => VERDICT_ON_TWENTY_DENIES,
+        ("twenty denies" | "twenty denies v2", _) => LIST_ON_TWENTY_DENIES,
         (_, "verdict") => VERDICT,
         _ => LIST,
     }

@@ -1,13 +1,15 @@
 //! The product beside the independent implementation, in one run: reading, runs,
-//! verdict and list, stack, and how time grows. Prints tables, marks what takes
-//! longer than it may, and writes the plot, `growth.svg`. In another run, the
-//! product's instructions.
+//! verdict and list, what version 2 costs, stack, and how time grows. Prints
+//! tables, marks what takes longer than it may, and writes the plot, `growth.svg`.
+//! In another run, the product's instructions.
 
 mod arguments;
 mod cpu_time;
 mod growth;
 mod instructions;
 mod limits;
+#[path = "../../tests/wide/numbers.rs"]
+mod numbers;
 mod plot;
 #[path = "../../tests/common/query.rs"]
 mod query;
@@ -16,6 +18,7 @@ mod running;
 mod stack;
 mod timing;
 mod tracing;
+mod versions;
 mod work;
 
 use std::path::Path;
@@ -55,7 +58,8 @@ fn tables(folder: &Path) -> Tally {
     println!("Ratio: product to reference; below 1 the product is faster.\n");
     reading::table();
     running::table();
-    let tally = tracing::tables();
+    let mut tally = tracing::tables();
+    versions::table(&mut tally);
     stack::table();
     growth::table_and_plot(folder);
     tally

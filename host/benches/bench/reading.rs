@@ -4,43 +4,47 @@
 use std::hint::black_box;
 
 use crate::timing::{in_words, race};
-use crate::to_host;
-use mwishovala::raw;
+use crate::work::{Call, RUN, WIDE_RUN};
+use reference::calls::Query;
 use reference::file::write;
-use reference::random::{largest, Rng};
-use reference::Query;
+use reference::random::{largest, Rng, WideRng};
+use reference::{Fabric, Words};
 
 pub fn table() {
-    let accepted = write(&largest(&mut Rng::new(1)));
-    let mut refused = accepted.clone();
-    // A stray bit in the end, the last word.
-    refused[40_196] = 1;
     println!(
         "{:<32} {:>10} {:>10} {:>6}",
         "reading", "product", "reference", "ratio"
     );
-    row("40,200 bytes, accepted", &accepted, 9);
-    row("refused at the last word", &refused, 10_049 * 256 + 3);
-    row("start and end alone", &accepted_least(), 9);
+    let accepted = write(&largest(&mut Rng::new(1)));
+    row("40,200 bytes, accepted", &RUN, &accepted, 9);
+    let refused = spoiled(accepted);
+    row("refused at the last word", &RUN, &refused, 10_049 * 256 + 3);
+    let least = write(&Fabric::default());
+    row("start and end alone", &RUN, &least, 9);
+    let accepted = write(&largest(&mut WideRng::new(1)));
+    row("version 2, 59,784 bytes", &WIDE_RUN, &accepted, 9);
+    let refused = spoiled(accepted);
+    row(
+        "refused at the last word",
+        &WIDE_RUN,
+        &refused,
+        14_945 * 256 + 3,
+    );
     println!();
 }
 
-fn accepted_least() -> Vec<u8> {
-    write(&reference::Fabric::default())
+/// With a stray bit in the end, the last word.
+fn spoiled(mut file: Vec<u8>) -> Vec<u8> {
+    let end = file.len() - 4;
+    file[end] = 1;
+    file
 }
 
-fn row(name: &str, file: &[u8], code: u64) {
-    let query = Query {
-        port: 0,
-        limit: 0,
-        budget: 0,
-        care: [0; 4],
-        value: [0; 4],
-    };
-    let asked = to_host(&query).numbers();
+fn row<W: Words>(name: &str, run: &Call<W>, file: &[u8], code: u64) {
+    let query = Query::wild(0, 0, 0);
     let times = race(
-        || assert_eq!(raw::run(black_box(file), &mut [], asked), code),
-        || assert_eq!(reference::run(black_box(file), &mut [], &query), code),
+        || assert_eq!((run.product)(black_box(file), &mut [], &query), code),
+        || assert_eq!((run.reference)(black_box(file), &mut [], &query), code),
     );
     let (product, reference) = (in_words(times.product), in_words(times.reference));
     println!(

@@ -6,24 +6,20 @@ use std::io::{Read, Seek, SeekFrom};
 use std::sync::atomic::{AtomicUsize, Ordering};
 use std::thread;
 
-use crate::to_host;
-use crate::work::{Call, LIST, RUN, VERDICT};
+use crate::work::{Call, LIST, RUN, VERDICT, WIDE_LIST, WIDE_RUN, WIDE_VERDICT};
 use reference::file::write;
-use reference::random::{deep_ring, every_beater_meets, lost_packets, no_beater_meets, Benchmark};
-use reference::Query;
+use reference::random::{
+    deep_ring, deepest_in_version_2, every_beater_meets, lost_packets, no_beater_meets, Benchmark,
+};
+use reference::set::Set;
+use reference::{Bits, Words};
 
 const PAGE: usize = 4096;
 
 /// A run with the most entries, and the deepest descents: 16 hops of 63 beaters.
 pub fn table() {
     println!("{:<32} {:>10} {:>10}", "stack", "product", "reference");
-    let mut run = deep_ring();
-    run.query = Query {
-        port: 1,
-        care: [u32::MAX; 4],
-        ..run.query
-    };
-    row("512 entries", &RUN, &run);
+    row("512 entries", &RUN, &a_packet(deep_ring()));
     for descent in [deep_ring(), every_beater_meets(), no_beater_meets()] {
         row(descent.name, &VERDICT, &descent);
         row(descent.name, &LIST, &descent);
@@ -31,14 +27,25 @@ pub fn table() {
     for lost in lost_packets() {
         row(lost.name, &LIST, &lost);
     }
+    let deepest = deepest_in_version_2().wide;
+    row("384 entries v2", &WIDE_RUN, &a_packet(deepest.clone()));
+    row(deepest.name, &WIDE_VERDICT, &deepest);
+    row(deepest.name, &WIDE_LIST, &deepest);
     println!("The library takes no other memory.\n");
 }
 
-fn row(name: &str, call: &Call, asked: &Benchmark) {
+/// The run of a packet from port 1.
+fn a_packet<B: Bits>(benchmark: Benchmark<B>) -> Benchmark<B> {
+    let mut packet = benchmark;
+    packet.query.port = 1;
+    packet.query = packet.query.about(Set::only(B::NONE));
+    packet
+}
+
+fn row<W: Words + Sync>(name: &str, call: &Call<W>, asked: &Benchmark<W::Bits>) {
     let (file, query) = (write(&asked.fabric), &asked.query);
-    let numbers = to_host(query).numbers();
     let mut area = vec![0; call.lent];
-    let product = stack_of(|| (call.product)(&file, &mut area, numbers));
+    let product = stack_of(|| (call.product)(&file, &mut area, query));
     let reference = stack_of(|| (call.reference)(&file, &mut area, query));
     let (product, reference) = (in_words(product), in_words(reference));
     let name = format!("{}, {name}", call.name);

@@ -5,7 +5,7 @@ use std::time::Duration;
 
 use crate::limits::{most_ratio, Tally};
 use crate::timing::{in_words, Times};
-use crate::work::{audit, fields, lost, traces, Work};
+use crate::work::{audit, fields, lost, traces, Measured, Work};
 
 /// The benchmark fabrics, how it grows with the fields of denies, what is lost, and
 /// an audit.

@@ -2,10 +2,15 @@
 //! tests here and in the folder above both ask about.
 
 mod equals;
+mod ethernet;
 mod misses;
 mod transfers;
 
 pub use equals::{alike, equals_behind_a_link, equals_below, leak_by_choice, ring_of_equals};
+pub use ethernet::{
+    denied_across_words, from_host, no_arp, one_host_admitted, one_pcp_taken, routed, to_host,
+    wide_f, wide_fabric, wide_file_of, wide_record, wide_reply,
+};
 pub use misses::{
     a_link_end_between_edges, lost_after_two_hops, lost_at_once, lost_by_choice, odd_tp_dst,
     under_1_3,
@@ -17,28 +22,15 @@ pub use transfers::{
 use crate::calls::Query;
 use crate::fabric::{Edge, Entry, Fabric, Link, OpenFlow};
 use crate::file::to_le_bytes;
-use crate::set::{Rewrite, Set};
-use crate::transfer::Transfer;
+use crate::set::{from_words, Rewrite, Set};
 
 /// All wild.
 pub fn wild_query(port: u32, limit: u32, budget: u32) -> Query {
-    Query {
-        port,
-        limit,
-        budget,
-        care: [0; 4],
-        value: [0; 4],
-    }
+    Query::wild(port, limit, budget)
 }
 
 pub fn run_query(port: u32, limit: u32, header: [u32; 4]) -> Query {
-    Query {
-        port,
-        limit,
-        budget: 0,
-        care: [u32::MAX; 4],
-        value: header,
-    }
+    Query::packet(port, limit, from_words(header))
 }
 
 /// Document 01's fabric F, as its 56 words are printed.
@@ -76,11 +68,7 @@ pub fn record(first: u32) -> Vec<u32> {
 
 /// An edge that admits every header.
 pub fn edge(group: u16, port: u16) -> Edge {
-    Edge {
-        group,
-        port,
-        admitted: Set::ALL_WILD,
-    }
+    Edge::open(group, port)
 }
 
 pub fn link(from: u16, to: u16) -> Link {
@@ -89,14 +77,7 @@ pub fn link(from: u16, to: u16) -> Link {
 
 /// An entry with an all-wild match that leaves headers as they are.
 pub fn entry(priority: u16, in_port: u16, out_port: u16) -> Entry {
-    Entry {
-        priority,
-        in_port,
-        out_port,
-        matching: Set::ALL_WILD,
-        transfer: Transfer::None,
-        rewrite: Rewrite::NONE,
-    }
+    Entry::plain(priority, in_port, out_port)
 }
 
 pub fn fabric(edges: &[Edge], links: &[Link], entries: &[Entry]) -> Fabric {

@@ -1,19 +1,20 @@
 //! Forwarding a packet: document 01, "Forwarding", with document 02's equal
 //! priorities (2.3), reply entries (2.5) and table miss (2.7).
 
+use crate::bits::Bits;
 use crate::fabric::{Entry, Fabric, OpenFlow};
 use crate::set::Header;
 
 /// "Now only a strictly higher priority beats", at the same in-port. Both are
 /// entry numbers.
-pub fn beats(fabric: &Fabric, one: usize, other: usize) -> bool {
+pub fn beats<B>(fabric: &Fabric<B>, one: usize, other: usize) -> bool {
     let (a, b) = (&fabric.entries[one], &fabric.entries[other]);
     a.in_port == b.in_port && a.priority > b.priority
 }
 
 /// "Any matching entry of the highest priority may take the packet": their
 /// numbers, in file order. None: a table miss.
-pub fn takers(fabric: &Fabric, in_port: u16, header: Header) -> Vec<usize> {
+pub fn takers<B: Bits>(fabric: &Fabric<B>, in_port: u16, header: B) -> Vec<usize> {
     let mut takers: Vec<usize> = Vec::new();
     for (number, entry) in fabric.entries.iter().enumerate() {
         if entry.in_port != in_port || !entry.matching.contains(header) {
@@ -43,30 +44,30 @@ pub enum Fate {
 
 /// A packet run. Hops are the length of `entries`: each entry taken makes one.
 #[derive(Clone, Debug, PartialEq, Eq)]
-pub struct Run {
+pub struct Run<B = Header> {
     pub fate: Fate,
     /// "Left: out-port; dropped or lost: in-port; travelling: next in-port";
     /// tied: in-port.
     pub port: u16,
     /// The header then, after all that was done to it.
-    pub header: Header,
+    pub header: B,
     /// Entries taken, in travelling order.
     pub entries: Vec<usize>,
 }
 
 /// Runs a packet from a port for at most `limit` hops, 1 to 16.
-pub fn run(fabric: &Fabric, start: u16, header: Header, limit: usize) -> Run {
+pub fn run<B: Bits>(fabric: &Fabric<B>, start: u16, header: B, limit: usize) -> Run<B> {
     run_by(Entry::apply, fabric, start, header, limit)
 }
 
 /// The same where this is what an entry makes of a header, right or wrong.
-pub fn run_by(
-    apply: impl Fn(&Entry, Header) -> Header,
-    fabric: &Fabric,
+pub fn run_by<B: Bits>(
+    apply: impl Fn(&Entry<B>, B) -> B,
+    fabric: &Fabric<B>,
     start: u16,
-    header: Header,
+    header: B,
     limit: usize,
-) -> Run {
+) -> Run<B> {
     let mut at = Run {
         fate: Fate::Travelling,
         port: start,
@@ -90,7 +91,7 @@ fn fate_of_a_miss(openflow: OpenFlow) -> Fate {
 
 /// The next hop of a packet that travels: "It rewrites, and one hop is made." A
 /// drop does all that too.
-fn hop(apply: impl Fn(&Entry, Header) -> Header, fabric: &Fabric, at: &mut Run) {
+fn hop<B: Bits>(apply: impl Fn(&Entry<B>, B) -> B, fabric: &Fabric<B>, at: &mut Run<B>) {
     let takers = takers(fabric, at.port, at.header);
     let [number] = takers[..] else {
         at.fate = match takers.is_empty() {

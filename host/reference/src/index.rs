@@ -3,9 +3,10 @@
 
 use std::iter::successors;
 
+use crate::bits::Bits;
 use crate::fabric::{Fabric, PORTS};
 use crate::forward::beats;
-use crate::set::Set;
+use crate::set::{Header, Set};
 
 /// What stands at a port that packets come in by.
 #[derive(Clone, Copy, Debug, PartialEq, Eq)]
@@ -20,8 +21,8 @@ pub enum Origin {
 
 /// The indexes of one accepted fabric.
 #[derive(Debug)]
-pub struct Index<'f> {
-    fabric: &'f Fabric,
+pub struct Index<'f, B = Header> {
+    fabric: &'f Fabric<B>,
     by_out_port: Chains,
     by_in_port: Chains,
     beaters: Vec<u16>,
@@ -29,11 +30,11 @@ pub struct Index<'f> {
     starts: Vec<usize>,
     /// By port.
     origins: Vec<Origin>,
-    matches: Vec<Set>,
+    matches: Vec<Set<B>>,
 }
 
-impl<'f> Index<'f> {
-    pub fn new(fabric: &'f Fabric) -> Index<'f> {
+impl<'f, B: Bits> Index<'f, B> {
+    pub fn new(fabric: &'f Fabric<B>) -> Index<'f, B> {
         let entries = &fabric.entries;
         let by_in_port = Chains::new(entries.iter().map(|entry| entry.in_port));
         let (beaters, starts) = beaters(fabric, &by_in_port);
@@ -48,7 +49,7 @@ impl<'f> Index<'f> {
         }
     }
 
-    pub fn fabric(&self) -> &'f Fabric {
+    pub fn fabric(&self) -> &'f Fabric<B> {
         self.fabric
     }
 
@@ -81,7 +82,7 @@ impl<'f> Index<'f> {
     }
 
     /// This entry's match; all of them lie close together.
-    pub fn matching(&self, entry: u16) -> &Set {
+    pub fn matching(&self, entry: u16) -> &Set<B> {
         &self.matches[usize::from(entry)]
     }
 }
@@ -117,7 +118,7 @@ impl Chains {
 }
 
 /// All entries' beaters, and where each entry's start.
-fn beaters(fabric: &Fabric, by_in_port: &Chains) -> (Vec<u16>, Vec<usize>) {
+fn beaters<B>(fabric: &Fabric<B>, by_in_port: &Chains) -> (Vec<u16>, Vec<usize>) {
     let (mut beaters, mut starts) = (Vec::new(), vec![0]);
     for (number, entry) in fabric.entries.iter().enumerate() {
         for other in by_in_port.at(entry.in_port) {
@@ -131,7 +132,7 @@ fn beaters(fabric: &Fabric, by_in_port: &Chains) -> (Vec<u16>, Vec<usize>) {
 }
 
 /// The link ends and then the edge ports, each with what stands there.
-fn open_ports(fabric: &Fabric) -> impl Iterator<Item = (u16, Origin)> + '_ {
+fn open_ports<B>(fabric: &Fabric<B>) -> impl Iterator<Item = (u16, Origin)> + '_ {
     let ends = fabric.links.iter();
     let ends = ends.map(|link| (link.to, Origin::Link(link.from)));
     let edges = (0..).zip(&fabric.edges);
@@ -140,7 +141,7 @@ fn open_ports(fabric: &Fabric) -> impl Iterator<Item = (u16, Origin)> + '_ {
 }
 
 /// What stands at each port.
-fn origins(fabric: &Fabric) -> Vec<Origin> {
+fn origins<B>(fabric: &Fabric<B>) -> Vec<Origin> {
     let mut origins = vec![Origin::Nothing; PORTS];
     for (port, origin) in open_ports(fabric) {
         if let Some(place) = origins.get_mut(usize::from(port)) {

@@ -2,14 +2,19 @@
 //! and without indexes. It writes down every unit and find in turn, so one
 //! telling has the answer for every budget.
 
-use crate::calls::Query;
+use crate::bits::Bits;
+use crate::calls::{answer_words, Query};
 use crate::fabric::{Edge, Entry, Fabric, PORTS};
 use crate::set::Set;
 use crate::transfer::Transfer;
 
 /// Byte `i` is a `0`, `1` or `x` for bit `i` in document 01's order, from word 0
-/// bit 31: the first 32 are nw_src, the next 32 nw_dst.
-pub type Ternary = [u8; 128];
+/// bit 31: the first 32 are nw_src, the next 32 nw_dst. The second half is `x` in
+/// version 1; in version 2 it has dl_src first.
+pub type Ternary = [u8; 256];
+
+/// How a part is carved by a set.
+pub type Carve = fn(&Ternary, &Ternary) -> Vec<Ternary>;
 
 /// What happens in a back-trace.
 #[derive(Clone, Debug, PartialEq, Eq)]
@@ -18,23 +23,39 @@ pub enum Event {
     Find {
         edge: usize,
         entries: Vec<usize>,
-        set: Ternary,
+        set: Box<Ternary>,
     },
 }
 
 /// The events of the whole back-trace; none if there are more than `most`.
-pub fn events(fabric: &Fabric, query: &Query, most: usize) -> Option<Vec<Event>> {
+pub fn events<B: Bits>(
+    fabric: &Fabric<B>,
+    query: &Query<B::Words>,
+    most: usize,
+) -> Option<Vec<Event>> {
     events_by(undo, fabric, query, most)
 }
 
 /// The same where entries are undone in this way, right or wrong.
-pub fn events_by(
-    undo: impl FnMut(&Entry, &Ternary) -> Option<Ternary>,
-    fabric: &Fabric,
-    query: &Query,
+pub fn events_by<B: Bits>(
+    undo: impl FnMut(&Entry<B>, &Ternary) -> Option<Ternary>,
+    fabric: &Fabric<B>,
+    query: &Query<B::Words>,
+    most: usize,
+) -> Option<Vec<Event>> {
+    events_carved_by(carved, undo, fabric, query, most)
+}
+
+/// The same where parts are carved in this way, too.
+pub fn events_carved_by<B: Bits>(
+    carved: Carve,
+    undo: impl FnMut(&Entry<B>, &Ternary) -> Option<Ternary>,
+    fabric: &Fabric<B>,
+    query: &Query<B::Words>,
     most: usize,
 ) -> Option<Vec<Event>> {
     let mut teller = Teller {
+        carved,
         undo,
         fabric,
         most,
@@ -50,12 +71,16 @@ pub fn events_by(
 }
 
 /// The verdict's words by these events; none if the budget doesn't do.
-pub fn verdict(fabric: &Fabric, query: &Query, events: &[Event]) -> Option<Vec<u32>> {
+pub fn verdict<B: Bits>(
+    fabric: &Fabric<B>,
+    query: &Query<B::Words>,
+    events: &[Event],
+) -> Option<Vec<u32>> {
     let target = fabric
         .edges
         .iter()
         .find(|edge| u32::from(edge.port) == query.port)?;
-    let mut words = vec![0; 24];
+    let mut words = vec![0; answer_words::<B>()];
     for event in events {
         match event {
             Event::Unit if words[1] == query.budget => return None,
@@ -66,10 +91,14 @@ pub fn verdict(fabric: &Fabric, query: &Query, events: &[Event]) -> Option<Vec<u
                     words[0] = 1;
                     words[2] = u32::from(edge.port);
                     words[3] = entries.len() as u32;
-                    words[4..8].copy_from_slice(&words_where(&header, b'1'));
-                    for (word, &entry) in words[8..].iter_mut().zip(entries) {
-                        *word = entry as u32;
-                    }
+                    let header = words_where::<B>(&header, b'1');
+                    let entries = entries.iter().map(|&entry| entry as u32);
+                    let shown = header.into_iter().chain(entries);
+                    words
+                        .iter_mut()
+                        .skip(4)
+                        .zip(shown)
+                        .for_each(|(word, shown)| *word = shown);
                     return Some(words);
                 }
             }
@@ -79,7 +108,11 @@ pub fn verdict(fabric: &Fabric, query: &Query, events: &[Event]) -> Option<Vec<u
 }
 
 /// The list's words by these events; none if the budget doesn't do.
-pub fn list(fabric: &Fabric, query: &Query, events: &[Event]) -> Option<Vec<u32>> {
+pub fn list<B: Bits>(
+    fabric: &Fabric<B>,
+    query: &Query<B::Words>,
+    events: &[Event],
+) -> Option<Vec<u32>> {
     let units = events.iter().filter(|event| **event == Event::Unit).count();
     if units > query.budget as usize {
         return None;
@@ -90,24 +123,25 @@ pub fn list(fabric: &Fabric, query: &Query, events: &[Event]) -> Option<Vec<u32>
             let port = u32::from(fabric.edges[*edge].port);
             words.push(0x6000_0000 + 4096 * entries.len() as u32 + port);
             words.extend(entries.iter().map(|&entry| 0x7000_0000 + entry as u32));
-            let (zeros, ones) = (words_where(set, b'0'), words_where(set, b'1'));
-            words.extend([0, 1, 2, 3].map(|word| zeros[word] + ones[word]));
+            let [zeros, ones] = [b'0', b'1'].map(|trit| words_where::<B>(set, trit));
+            words.extend(zeros.iter().zip(&ones).map(|(zeros, ones)| zeros + ones));
             words.extend(ones);
         }
     }
     Some(words)
 }
 
-struct Teller<'f, U> {
+struct Teller<'f, B, U> {
+    carved: Carve,
     undo: U,
-    fabric: &'f Fabric,
+    fabric: &'f Fabric<B>,
     most: usize,
     /// The entries in travelling order.
     path: Vec<usize>,
     events: Vec<Event>,
 }
 
-impl<U: FnMut(&Entry, &Ternary) -> Option<Ternary>> Teller<'_, U> {
+impl<B: Bits, U: FnMut(&Entry<B>, &Ternary) -> Option<Ternary>> Teller<'_, B, U> {
     fn tell(&mut self, event: Event) -> Option<()> {
         self.events.push(event);
         (self.events.len() <= self.most).then_some(())
@@ -159,7 +193,7 @@ impl<U: FnMut(&Entry, &Ternary) -> Option<Ternary>> Teller<'_, U> {
             return self.survived(in_port, part, left);
         };
         self.tell(Event::Unit)?;
-        for piece in carved(part, beater) {
+        for piece in (self.carved)(part, beater) {
             self.carve(in_port, &piece, others, left)?;
         }
         Some(())
@@ -171,7 +205,7 @@ impl<U: FnMut(&Entry, &Ternary) -> Option<Ternary>> Teller<'_, U> {
             return self.tell(Event::Find {
                 edge,
                 entries: self.path.clone(),
-                set: *part,
+                set: Box::new(*part),
             });
         }
         match self.fabric.links.iter().find(|link| link.to == in_port) {
@@ -185,34 +219,33 @@ impl<U: FnMut(&Entry, &Ternary) -> Option<Ternary>> Teller<'_, U> {
         let entries = &self.fabric.entries;
         let beaten = &entries[number];
         let beats =
-            |entry: &&Entry| entry.in_port == beaten.in_port && entry.priority > beaten.priority;
+            |entry: &&Entry<B>| entry.in_port == beaten.in_port && entry.priority > beaten.priority;
         let beaters = entries.iter().filter(beats);
         beaters.map(|entry| from_set(&entry.matching)).collect()
     }
 }
 
-pub fn from_set(set: &Set) -> Ternary {
-    let mut ternary = [b'x'; 128];
-    for (i, trit) in ternary.iter_mut().enumerate() {
-        let bit = 127 - i;
-        if set.care >> bit & 1 == 1 {
-            *trit = if set.value >> bit & 1 == 1 {
-                b'1'
-            } else {
-                b'0'
-            };
-        }
+pub fn from_set<B: Bits>(set: &Set<B>) -> Ternary {
+    let mut ternary = [b'x'; 256];
+    let numbers = (0..32 * B::WORDS as u32).rev();
+    for (trit, number) in ternary.iter_mut().zip(numbers) {
+        *trit = match (set.care.has(number), set.value.has(number)) {
+            (false, _) => b'x',
+            (true, false) => b'0',
+            (true, true) => b'1',
+        };
     }
     ternary
 }
 
-/// Four words with a 1 wherever this byte stands.
-fn words_where(ternary: &Ternary, wanted: u8) -> [u32; 4] {
-    let mut words = [0; 4];
-    for (i, &trit) in ternary.iter().enumerate() {
-        words[i / 32] = words[i / 32] * 2 + u32::from(trit == wanted);
-    }
-    words
+/// A header's words with a 1 wherever this byte stands.
+fn words_where<B: Bits>(ternary: &Ternary, wanted: u8) -> Vec<u32> {
+    let word = |trits: &[u8]| {
+        trits
+            .iter()
+            .fold(0, |word, &trit| word * 2 + u32::from(trit == wanted))
+    };
+    ternary.chunks(32).take(B::WORDS).map(word).collect()
 }
 
 /// Whether some bit is 0 in one and 1 in the other.
@@ -232,15 +265,12 @@ fn both(one: &Ternary, other: &Ternary) -> Option<Ternary> {
 }
 
 /// The rewrite is undone first, then what came before it.
-pub fn undo(entry: &Entry, wanted: &Ternary) -> Option<Ternary> {
+pub fn undo<B: Bits>(entry: &Entry<B>, wanted: &Ternary) -> Option<Ternary> {
     undo_transfer(entry, &undo_rewrite(entry, wanted)?)
 }
 
-pub fn undo_rewrite(entry: &Entry, wanted: &Ternary) -> Option<Ternary> {
-    let written = from_set(&Set {
-        care: entry.rewrite.mask,
-        value: entry.rewrite.value,
-    });
+pub fn undo_rewrite<B: Bits>(entry: &Entry<B>, wanted: &Ternary) -> Option<Ternary> {
+    let written = from_set(&entry.rewrite.written());
     let mut before = *wanted;
     for (trit, &b) in before.iter_mut().zip(&written) {
         if b != b'x' {
@@ -251,7 +281,7 @@ pub fn undo_rewrite(entry: &Entry, wanted: &Ternary) -> Option<Ternary> {
 }
 
 /// Of each bit of nw_src and the same one of nw_dst: what they were before.
-pub fn undo_transfer(entry: &Entry, wanted: &Ternary) -> Option<Ternary> {
+pub fn undo_transfer<B>(entry: &Entry<B>, wanted: &Ternary) -> Option<Ternary> {
     let mut before = *wanted;
     for src in 0..32 {
         let dst = src + 32;
@@ -275,7 +305,7 @@ pub fn joined(one: u8, other: u8) -> Option<u8> {
 
 /// If undoing this entry joins two wanted bits into one, whether they agree, and
 /// all others that it joins.
-pub fn joins_agree(entry: &Entry, wanted: &Ternary) -> Option<bool> {
+pub fn joins_agree<B: Bits>(entry: &Entry<B>, wanted: &Ternary) -> Option<bool> {
     let wanted = undo_rewrite(entry, wanted)?;
     let of_both = wanted[..32].iter().zip(&wanted[32..64]);
     let mut joined = of_both.filter(|(&src, &dst)| src != b'x' && dst != b'x');
@@ -283,13 +313,14 @@ pub fn joins_agree(entry: &Entry, wanted: &Ternary) -> Option<bool> {
     joins.then(|| joined.all(|(src, dst)| src == dst))
 }
 
-fn carved(part: &Ternary, by: &Ternary) -> Vec<Ternary> {
+/// What is left of a part without what another set has.
+pub fn carved(part: &Ternary, by: &Ternary) -> Vec<Ternary> {
     if apart(part, by) {
         return vec![*part];
     }
     let mut parts = Vec::new();
     let mut stem = *part;
-    for i in 0..128 {
+    for i in 0..stem.len() {
         if stem[i] == b'x' && by[i] != b'x' {
             let mut opposite = stem;
             opposite[i] = if by[i] == b'0' { b'1' } else { b'0' };
@@ -301,7 +332,7 @@ fn carved(part: &Ternary, by: &Ternary) -> Vec<Ternary> {
 }
 
 /// The lowest foreign header of a find's first foreign part.
-fn foreign(edge: &Edge, target: &Edge, set: &Ternary) -> Option<Ternary> {
+fn foreign<B: Bits>(edge: &Edge<B>, target: &Edge<B>, set: &Ternary) -> Option<Ternary> {
     if edge.group != target.group {
         return Some(*set);
     }

@@ -3,8 +3,9 @@
 
 use std::ops::ControlFlow;
 
+use crate::bits::Bits;
 use crate::index::{Index, Origin};
-use crate::set::Set;
+use crate::set::{Header, Set};
 
 /// Question 9's upper limit.
 pub const MOST_HOPS: usize = 16;
@@ -13,12 +14,12 @@ pub const NOWHERE: u16 = 0;
 
 /// A part that came back to an edge port.
 #[derive(Clone, Copy, Debug, PartialEq, Eq)]
-pub struct Find<'a> {
+pub struct Find<'a, B = Header> {
     /// The edge's index in the fabric.
     pub edge: usize,
     /// The entries in travelling order; one hop each.
     pub entries: &'a [u16],
-    pub set: Set,
+    pub set: Set<B>,
 }
 
 /// How a back-trace ended.
@@ -35,13 +36,13 @@ pub enum Ended {
 /// Traces back from the target, an edge port or nowhere, and shows each find in
 /// turn to the visitor. The limit is 1 to 16; no find has more hops than that, and
 /// none of a lost packet as many.
-pub fn trace(
-    index: &Index,
+pub fn trace<B: Bits>(
+    index: &Index<B>,
     target: u16,
     limit: usize,
-    asked: Set,
+    asked: Set<B>,
     budget: u32,
-    visit: impl FnMut(&Find) -> ControlFlow<()>,
+    visit: impl FnMut(&Find<B>) -> ControlFlow<()>,
 ) -> Ended {
     let limit = limit.min(MOST_HOPS);
     let mut tracer = Tracer {
@@ -73,8 +74,8 @@ enum Halt {
     Budget,
 }
 
-struct Tracer<'i, 'f, V> {
-    index: &'i Index<'f>,
+struct Tracer<'i, 'f, B, V> {
+    index: &'i Index<'f, B>,
     /// The most hops that a find can have.
     longest: usize,
     budget: u32,
@@ -85,7 +86,7 @@ struct Tracer<'i, 'f, V> {
     visit: V,
 }
 
-impl<V: FnMut(&Find) -> ControlFlow<()>> Tracer<'_, '_, V> {
+impl<B: Bits, V: FnMut(&Find<B>) -> ControlFlow<()>> Tracer<'_, '_, B, V> {
     /// "A unit is made only while fewer than the budget were made."
     fn unit(&mut self) -> Result<(), Halt> {
         if self.units >= self.budget {
@@ -99,7 +100,7 @@ impl<V: FnMut(&Find) -> ControlFlow<()>> Tracer<'_, '_, V> {
     /// all entries of that in-port in file order, a unit a trial." No entry takes what
     /// survives. At an edge port that is after no hop; where a link ends, after one at
     /// least, so that the stop behind it has the limit less one hop left.
-    fn lost(&mut self, asked: &Set, left: usize) -> Result<(), Halt> {
+    fn lost(&mut self, asked: &Set<B>, left: usize) -> Result<(), Halt> {
         for in_port in self.index.in_ports() {
             let here: Vec<u16> = self.index.with_in_port(in_port).collect();
             self.carve(in_port, &here, asked, left)?;
@@ -113,7 +114,7 @@ impl<V: FnMut(&Find) -> ControlFlow<()>> Tracer<'_, '_, V> {
     /// With the rewrite, the copy or swap before it is undone.
     // Not inlined into carving, it costs the whole trace a few percent.
     #[inline(always)]
-    fn stop(&mut self, out_port: u16, wanted: &Set, left: usize) -> Result<(), Halt> {
+    fn stop(&mut self, out_port: u16, wanted: &Set<B>, left: usize) -> Result<(), Halt> {
         let index = self.index;
         for entry in index.with_out_port(out_port) {
             self.unit()?;
@@ -135,7 +136,7 @@ impl<V: FnMut(&Find) -> ControlFlow<()>> Tracer<'_, '_, V> {
         &mut self,
         in_port: u16,
         beaters: &[u16],
-        part: &Set,
+        part: &Set<B>,
         left: usize,
     ) -> Result<(), Halt> {
         for (tried, &beater) in beaters.iter().enumerate() {
@@ -154,7 +155,7 @@ impl<V: FnMut(&Find) -> ControlFlow<()>> Tracer<'_, '_, V> {
     /// "If that is an edge port, the part is a find. If a link ends there and
     /// more than one hop was left, a stop follows at its from-port with one
     /// hop less."
-    fn survived(&mut self, in_port: u16, part: &Set, left: usize) -> Result<(), Halt> {
+    fn survived(&mut self, in_port: u16, part: &Set<B>, left: usize) -> Result<(), Halt> {
         match self.index.origin(in_port) {
             Origin::Edge(edge) => self.find(usize::from(edge), part, left),
             Origin::Link(from) if left > 1 => self.stop(from, part, left - 1),
@@ -162,7 +163,7 @@ impl<V: FnMut(&Find) -> ControlFlow<()>> Tracer<'_, '_, V> {
         }
     }
 
-    fn find(&mut self, edge: usize, part: &Set, left: usize) -> Result<(), Halt> {
+    fn find(&mut self, edge: usize, part: &Set<B>, left: usize) -> Result<(), Halt> {
         let find = Find {
             edge,
             entries: &self.path[left - 1..self.longest],

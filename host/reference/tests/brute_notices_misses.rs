@@ -9,7 +9,6 @@ use reference::brute::{BUDGET, MOST_WAYS};
 use reference::file::write;
 use reference::query::LENT_BYTES;
 use reference::random::{cases, leaky_ring, small, small_query, ties};
-use reference::set::to_words;
 use reference::ways::{Packet, DROPPED, LOST};
 use reference::{list, Fabric, Header, OpenFlow, Query, Set};
 
@@ -104,14 +103,7 @@ const WRONGS: [(&str, Wrong); 11] = [
 ];
 
 fn words_of(finds: &[Find]) -> Vec<u32> {
-    let mut words = Vec::new();
-    for Find { port, entries, set } in finds {
-        words.push(6 << 28 | (entries.len() as u32) << 12 | u32::from(*port));
-        words.extend(entries.iter().map(|entry| 7 << 28 | entry));
-        words.extend(to_words(set.care));
-        words.extend(to_words(set.value));
-    }
-    words
+    finds.iter().flat_map(Find::words).collect()
 }
 
 /// All that stands in the finds, each as often as it does.
@@ -194,16 +186,16 @@ fn wrong_runs_of_misses() {
             };
             let [old, new] = OpenFlow::ALL.map(under);
             let (right, other) = match made.fabric.openflow {
-                OpenFlow::V1_0 => (old, new),
-                OpenFlow::V1_3 => (new, old),
+                OpenFlow::V1_0 => (&old, &new),
+                OpenFlow::V1_3 => (&new, &old),
             };
-            assert_eq!(run.words(), Some(right));
-            assert_eq!(check_run(packet, ends, &right), Ok(()));
+            assert_eq!(run.words().as_ref(), Some(right));
+            assert_eq!(check_run(packet, ends, right), Ok(()));
             let is_missed = old != new;
-            assert_eq!(check_run(packet, ends, &other).is_err(), is_missed);
+            assert_eq!(check_run(packet, ends, other).is_err(), is_missed);
             if is_missed {
                 assert_eq!((old[0], new[0]), (LOST, DROPPED));
-                let mut with_a_hop = right;
+                let mut with_a_hop = right.clone();
                 with_a_hop[3] += 1;
                 assert!(check_run(packet, ends, &with_a_hop).is_err());
             }

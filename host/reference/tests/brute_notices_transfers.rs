@@ -155,7 +155,7 @@ const WRONG_APPLIES: [(&str, Apply); 5] = [
 ];
 
 /// The words of a run where entries do this.
-fn run_by(apply: Apply, packet: &Packet) -> [u32; 24] {
+fn run_by(apply: Apply, packet: &Packet) -> Vec<u32> {
     let limit = packet.limit as usize;
     let run = forward::run_by(apply, packet.fabric, packet.start, packet.header, limit);
     let way = Way {

@@ -4,20 +4,22 @@
 mod common;
 
 use common::{answer, Seen};
+use reference::calls::{self, answer_words, Answer, Query};
 use reference::examples::{edge, entry, fabric, link, tp_dst, wild_query};
+use reference::fabric::{Entry, Fabric};
 use reference::file::write;
 use reference::random::{
-    any, audited, campus, cases, crowded, deep_ring, every_beater_meets, leaky_ring, list_query,
-    no_beater_meets, random_denies, replies, routed_campus, small_query, Benchmark,
+    any, audited, campus, cases_of, crowded, deep_ring, every_beater_meets, leaky_ring, list_query,
+    no_beater_meets, random_denies, replies, routed_campus, small_query, source::Rng, Benchmark,
 };
 use reference::ternary::{self, Event, Ternary};
-use reference::{list, verdict, Entry, Fabric, OpenFlow, Query, Set};
+use reference::{list, verdict, Bits, Header, OpenFlow, Set, Wide, Words};
 
 /// Beyond this a case is skipped.
 const MOST_EVENTS: usize = 10_000;
 
 /// The verdict and the list for some budgets around their counts.
-fn check_budgets(fabric: &Fabric, asked: &Query, events: &[Event]) {
+fn check_budgets<B: Bits>(fabric: &Fabric<B>, asked: &Query<B::Words>, events: &[Event]) {
     let file = write(fabric);
     let unbound = Query {
         budget: u32::MAX,
@@ -30,7 +32,7 @@ fn check_budgets(fabric: &Fabric, asked: &Query, events: &[Event]) {
     for count in [verdict_units, all_units, 0, asked.budget] {
         for budget in [count.saturating_sub(1), count, count.saturating_add(1)] {
             let asked = Query { budget, ..*asked };
-            let judged = answer(verdict, &file, 96, &asked);
+            let judged = answer(calls::verdict, &file, 4 * answer_words::<B>(), &asked);
             if asked.is_of_the_lost() {
                 assert_eq!(judged, Err((8, 0)));
             } else {
@@ -46,40 +48,50 @@ fn check_budgets(fabric: &Fabric, asked: &Query, events: &[Event]) {
 }
 
 /// Whether it is one for a list: "under 1.0 .. the list accepts target 0".
-fn is_in_range(fabric: &Fabric, asked: &Query) -> bool {
+fn is_in_range<B: Bits>(fabric: &Fabric<B>, asked: &Query<B::Words>) -> bool {
     let is_of_the_lost = asked.port == 0 && fabric.openflow == OpenFlow::V1_0;
     let is_right = is_of_the_lost || fabric.edge(asked.port).is_some();
     is_right && asked.asked().is_proper() && (1..=16).contains(&asked.limit)
 }
 
 /// The list with room for all its words, and with a byte less.
-fn check_room(file: &[u8], asked: &Query, expected: Result<Vec<u32>, (u8, u64)>) {
+fn check_room<W: Words>(file: &[u8], asked: &Query<W>, expected: Answer) {
     let bytes = 4 * expected.as_ref().map_or(0, Vec::len);
-    assert_eq!(answer(list, file, bytes + 5, asked), expected);
-    assert_eq!(answer(list, file, bytes, asked), expected);
+    let of = |lent| answer(calls::list, file, lent, asked);
+    assert_eq!(of(bytes + 5), expected);
+    assert_eq!(of(bytes), expected);
     if bytes > 0 {
-        assert_eq!(answer(list, file, bytes - 1, asked), Err((12, 0)));
-        assert_eq!(answer(list, file, bytes - 4, asked), Err((12, 0)));
+        assert_eq!(of(bytes - 1), Err((12, 0)));
+        assert_eq!(of(bytes - 4), Err((12, 0)));
     }
 }
 
-/// In more than half of the cases there is a unit; in many a copy is undone that
-/// joins wanted bits, and many are lists of the lost.
 #[test]
 fn every_budget_and_room() {
+    budgets_and_rooms::<Header>((700_000, 5000));
+}
+
+#[test]
+fn every_budget_and_room_in_version_2() {
+    budgets_and_rooms::<Wide>((1_700_000, 2000));
+}
+
+/// In half of the cases there is a unit; in one of five a copy is undone that joins
+/// wanted bits, and many are lists of the lost.
+fn budgets_and_rooms<B: Bits>(seeds: (u64, u64)) {
     let [compared, agree, disagree, lost]: [Seen; 4] = Default::default();
-    let undo = |entry: &Entry, wanted: &Ternary| {
+    let undo = |entry: &Entry<B>, wanted: &Ternary| {
         let joined = ternary::joins_agree(entry, wanted);
         agree.count(joined == Some(true));
         disagree.count(joined == Some(false));
         ternary::undo(entry, wanted)
     };
-    cases(700_000, 5000, |rng| {
+    cases_of(seeds.0, seeds.1, |rng: &mut Rng<B>| {
         let fabric = any(rng);
         let asked = list_query(rng, &fabric, 2000);
         if !is_in_range(&fabric, &asked) {
-            assert!(answer(verdict, &write(&fabric), 96, &asked).is_err());
-            assert!(answer(list, &write(&fabric), 96, &asked).is_err());
+            assert!(answer(calls::verdict, &write(&fabric), 200, &asked).is_err());
+            assert!(answer(calls::list, &write(&fabric), 200, &asked).is_err());
             return;
         }
         if let Some(events) = ternary::events_by(undo, &fabric, &asked, MOST_EVENTS) {
@@ -88,17 +100,27 @@ fn every_budget_and_room() {
             lost.count(asked.is_of_the_lost() && events.contains(&Event::Unit));
         }
     });
-    compared.at_least(2500);
-    agree.at_least(1000);
-    disagree.at_least(1000);
-    lost.at_least(400);
+    let number = seeds.1 as u32;
+    compared.at_least(number / 2);
+    agree.at_least(number / 5);
+    disagree.at_least(number / 5);
+    lost.at_least(number / 13);
+}
+
+#[test]
+fn the_lost_of_leaky_rings() {
+    losses_of_rings::<Header>((720_000, 1000));
+}
+
+#[test]
+fn the_lost_of_leaky_rings_in_version_2() {
+    losses_of_rings::<Wide>((1_720_000, 1000));
 }
 
 /// Lists of the lost alone, on rings where packets are lost after many hops.
-#[test]
-fn the_lost_of_leaky_rings() {
+fn losses_of_rings<B: Bits>(seeds: (u64, u64)) {
     let [compared, far]: [Seen; 2] = Default::default();
-    cases(720_000, 1000, |rng| {
+    cases_of(seeds.0, seeds.1, |rng: &mut Rng<B>| {
         let mut made = leaky_ring(rng);
         made.fabric.openflow = OpenFlow::V1_0;
         let asked = small_query(rng, &made).of_the_lost();
@@ -117,11 +139,20 @@ fn the_lost_of_leaky_rings() {
     far.at_least(100);
 }
 
-/// Many beaters, of which few meet.
 #[test]
 fn crowded_in_ports() {
+    crowds::<Header>((710_000, 1000));
+}
+
+#[test]
+fn crowded_in_ports_in_version_2() {
+    crowds::<Wide>((1_710_000, 1000));
+}
+
+/// Many beaters, of which few meet.
+fn crowds<B: Bits>(seeds: (u64, u64)) {
     let compared = Seen::default();
-    cases(710_000, 1000, |rng| {
+    cases_of(seeds.0, seeds.1, |rng: &mut Rng<B>| {
         let made = crowded(rng);
         let asked = small_query(rng, &made);
         if !is_in_range(&made.fabric, &asked) {

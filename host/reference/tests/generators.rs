@@ -4,26 +4,33 @@ mod common;
 
 use std::ops::ControlFlow;
 
-use common::answer;
-use reference::calls::count;
-use reference::file::{read, write};
+use common::{answer, Seen};
+use reference::brute::finds_in;
+use reference::calls::{self, answer_words, count};
+use reference::file::{read, read_as, write};
 use reference::index::Index;
 use reference::random::{
-    any, audited, beater_chain, campus, cases, crowded, dead_ends, deep_ring, denies_on_fields,
-    every_beater_meets, largest, leaky_ring, list_query, lost_packets, no_beater_meets, query,
-    random_denies, random_transit, replies, ring, routed_campus, small, small_query, small_ring,
-    switches, ties, tiny, twenty_denies, wild_under_denies, Benchmark, Rng, Small,
+    any, audited, beater_chain, campus, cases, crowded, dead_ends, deep_ring, deepest_in_version_2,
+    denies_on_fields, every_beater_meets, in_both_versions, largest, leaky_ring, list_query,
+    lost_packets, no_beater_meets, packet, query, random_denies, random_transit, replies, ring,
+    routed_campus, small, small_query, small_ring, switches, ties, tiny, twenty_denies, wide_cases,
+    wild_under_denies, Benchmark, InBoth, Rng, Small, WideRng,
 };
 use reference::trace::{trace, NOWHERE};
-use reference::{list, verdict, Entry, Fabric, OpenFlow, Query, Set, Transfer};
+use reference::{list, wide, Bits, Entry, Fabric, OpenFlow, Query, Set, Transfer, Wide};
 
 type Make = fn(&mut Rng) -> Fabric;
+type MakeWide = fn(&mut WideRng) -> wide::Fabric;
 
 #[test]
 fn fabrics_are_accepted_and_read_back() {
     cases(900_000, 5000, |rng| {
         let fabric = any(rng);
         assert_eq!(read(&write(&fabric)), Ok(fabric));
+    });
+    wide_cases(1_900_000, 5000, |rng| {
+        let fabric = any(rng);
+        assert_eq!(read_as(&write(&fabric)), Ok(fabric));
     });
 }
 
@@ -40,6 +47,9 @@ fn a_seed_makes_the_same_fabric() {
 fn the_largest_file_is_as_large_as_can_be() {
     cases(910_000, 20, |rng| {
         assert_eq!(write(&largest(rng)).len(), 40_200);
+    });
+    wide_cases(1_910_000, 20, |rng| {
+        assert_eq!(write(&largest(rng)).len(), 59_784);
     });
 }
 
@@ -202,6 +212,61 @@ fn queries_of_the_lost() {
     assert!((50..=250).contains(&of_verdict), "{of_verdict}");
 }
 
+/// The same generators in version 2, but for the tiny one's.
+const WIDE_GENERATORS: [(&str, MakeWide); 11] = [
+    ("small", |rng| small(rng).fabric),
+    ("ties", |rng| ties(rng).fabric),
+    ("dead ends", |rng| dead_ends(rng).fabric),
+    ("small ring", |rng| small_ring(rng).fabric),
+    ("leaky ring", |rng| leaky_ring(rng).fabric),
+    ("crowded", |rng| crowded(rng).fabric),
+    ("switches", switches),
+    ("ring", ring),
+    ("beater chain", beater_chain),
+    ("wild under denies", wild_under_denies),
+    ("largest", largest),
+];
+
+/// In most fabrics of each generator a match has an Ethernet field, and in many of
+/// most generators a rewrite and an admitted set.
+#[test]
+fn ethernet_fields() {
+    let has = |bits: Wide| bits.ethernet != 0;
+    for (name, make) in WIDE_GENERATORS {
+        let [mut matches, mut rewrites, mut admitted] = [0; 3];
+        for made in (0..300).map(|seed| make(&mut WideRng::new(seed))) {
+            let (entries, edges) = (&made.entries, &made.edges);
+            matches += u32::from(entries.iter().any(|entry| has(entry.matching.care)));
+            rewrites += u32::from(entries.iter().any(|entry| has(entry.rewrite.mask)));
+            admitted += u32::from(edges.iter().any(|edge| has(edge.admitted.care)));
+        }
+        println!("{name}: {matches}, {rewrites}, {admitted}");
+        let one_switch = ["beater chain", "wild under denies"].contains(&name);
+        let few = if one_switch { 0 } else { 100 };
+        assert!(
+            matches >= 150 && rewrites >= few && admitted >= 100,
+            "{name}"
+        );
+    }
+}
+
+/// Most queries of version 2 are in range, and some care for a bit that must be zero.
+#[test]
+fn zero_bits_in_queries() {
+    let [proper, of_queries, of_packets]: [Seen; 3] = Default::default();
+    wide_cases(1_930_000, 2000, |rng| {
+        let made = any(rng);
+        let (asked, sent) = (query(rng, &made, 100).asked(), packet(rng, &made).asked());
+        let cares = |set: &wide::Set| set.care & Wide::ZERO_BITS != Wide::NONE;
+        proper.count(asked.is_proper() && sent.is_proper());
+        of_queries.count(cares(&asked));
+        of_packets.count(cares(&sent));
+    });
+    proper.at_least(1600);
+    of_queries.at_least(30);
+    of_packets.at_least(1);
+}
+
 /// Copies and swaps move none of a small fabric's bits elsewhere.
 #[test]
 fn small_fabrics_have_the_same_bits_of_both_addresses() {
@@ -227,26 +292,22 @@ fn small_fabrics_have_the_same_bits_of_both_addresses() {
 }
 
 /// Entries, units and finds of a benchmark, whose target is isolated.
-fn measure(benchmark: Benchmark, lent: usize) -> (usize, u32, u32) {
+fn measure<B: Bits>(benchmark: Benchmark<B>, lent: usize) -> (usize, u32, usize) {
     let Benchmark { fabric, query, .. } = benchmark;
     let file = write(&fabric);
-    assert_eq!(read(&file), Ok(fabric.clone()));
-    let words = answer(verdict, &file, 96, &query).unwrap();
+    assert_eq!(read_as(&file), Ok(fabric.clone()));
+    let room = 4 * answer_words::<B>();
+    let words = answer(calls::verdict, &file, room, &query).unwrap();
     assert_eq!(words[0], 0);
     let units = words[1];
-    let short = Query {
+    let short = calls::Query {
         budget: units - 1,
         ..query
     };
-    assert_eq!(answer(verdict, &file, 96, &short), Err((13, 0)));
-    let listed = answer(list, &file, lent, &query).unwrap();
-    let mut finds = 0;
-    let mut rest = &listed[..];
-    while let [first, ..] = rest {
-        rest = &rest[9 + (first >> 12 & 0xffff) as usize..];
-        finds += 1;
-    }
-    (fabric.entries.len(), units, finds)
+    assert_eq!(answer(calls::verdict, &file, room, &short), Err((13, 0)));
+    let listed = answer(calls::list, &file, lent, &query).unwrap();
+    let finds = finds_in::<B>(&listed).unwrap();
+    (fabric.entries.len(), units, finds.len())
 }
 
 #[test]
@@ -262,6 +323,32 @@ fn the_benchmarks() {
     assert_eq!(most_hops(&routed_campus().fabric), 16);
     assert_eq!(measure(random_denies(), 1 << 20), (500, 111_749, 9821));
     assert_eq!(measure(random_transit(), 1 << 20), (500, 292_016, 659));
+}
+
+/// Entries, units and finds are the same in both, also where Ethernet fields tell
+/// the hosts.
+#[test]
+fn the_benchmarks_in_both_versions() {
+    let expected = [
+        (370, 4389, 429),
+        (288, 45_982, 6250),
+        (21, 1 << 20, 1 << 20),
+        (384, 30_560, 64),
+        (384, 10_351, 1287),
+        (400, 62_462, 2552),
+        (400, 24_391, 41),
+        (370, 4389, 429),
+    ];
+    let all = in_both_versions();
+    assert_eq!(all.len(), expected.len());
+    for (InBoth { old, wide }, expected) in all.into_iter().zip(expected) {
+        assert_eq!(measure(old, 40 << 20), expected);
+        assert_eq!(measure(wide, 72 << 20), expected);
+    }
+    let InBoth { old, wide } = deepest_in_version_2();
+    assert_eq!(most_hops(&old.fabric), 16);
+    assert_eq!(measure(old, 1 << 20), (384, 1212, 3));
+    assert_eq!(measure(wide, 1 << 20), (384, 1212, 3));
 }
 
 /// Units and finds of the lists of the lost that time is measured with.

@@ -3,11 +3,12 @@
 mod common;
 
 use common::{answer, filled, Seen};
+use reference::calls;
 use reference::examples::{edge, entry, fabric, link, run_query, to_tp_dst, tp_dst};
 use reference::file::write;
-use reference::random::{any, cases, packet};
+use reference::random::{any, cases_of, packet, source::Rng};
 use reference::ways::{Packet, DROPPED, LOST, TIED};
-use reference::{run, Entry, Fabric, Set, Transfer};
+use reference::{run, Bits, Entry, Fabric, Header, Set, Transfer, Wide};
 
 /// Edges 1 and 2; links 10 to 11, 12 to 13, 14 to 15.
 /// At 1: entry 2 sends tp_dst 80 to 10, as 81; entry 4 sends what has two bits
@@ -146,17 +147,26 @@ fn sixteen_hops_round_a_ring() {
     assert_eq!(got, Ok(words([3, 0, 13, 16, 0, 0, 0, 0], &taken)));
 }
 
-/// Against the naive forwarding, over all kinds of fabrics; and by all ends,
-/// where these are few enough to be looked at.
 #[test]
 fn runs_agree_with_naive_forwarding() {
+    agrees_with_naive_forwarding::<Header>((10_000, 2000));
+}
+
+#[test]
+fn runs_agree_with_naive_forwarding_in_version_2() {
+    agrees_with_naive_forwarding::<Wide>((1_010_000, 2000));
+}
+
+/// Against the naive forwarding, over all kinds of fabrics; and by all ends,
+/// where these are few enough to be looked at.
+fn agrees_with_naive_forwarding<B: Bits>(seeds: (u64, u64)) {
     let [tied, moved, lost, missed]: [Seen; 4] = Default::default();
-    cases(10_000, 2000, |rng| {
+    cases_of(seeds.0, seeds.1, |rng: &mut Rng<B>| {
         let fabric = any(rng);
         let file = write(&fabric);
         for _ in 0..20 {
             let query = packet(rng, &fabric);
-            let Ok(words) = answer(run, &file, 100, &query) else {
+            let Ok(words) = answer(calls::run, &file, 115, &query) else {
                 continue;
             };
             let packet = Packet::asked(&fabric, &query);
@@ -167,7 +177,7 @@ fn runs_agree_with_naive_forwarding() {
             }
             tied.count(words[0] == TIED);
             let transfer = |&entry: &u32| fabric.entries[entry as usize].transfer;
-            let taken = &words[8..][..words[3] as usize];
+            let taken = &words[4 + B::WORDS..][..words[3] as usize];
             moved.count(taken.iter().any(|entry| transfer(entry) != Transfer::None));
             let drops = |&entry: &u32| fabric.entries[entry as usize].out_port == 0;
             lost.count(words[0] == LOST);

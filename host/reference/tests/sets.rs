@@ -4,43 +4,74 @@
 mod common;
 
 use common::Seen;
-use reference::examples::entry;
-use reference::random::{cases, Rng};
-use reference::set::{from_words, to_words};
+use reference::brute::headers_over;
+use reference::fabric::Entry;
+use reference::random::cases_of;
+use reference::random::source::Rng;
+use reference::set::{from_words, to_words, Rewrite, Set};
 use reference::ternary;
-use reference::{Entry, Header, Rewrite, Set, Transfer};
+use reference::{Bits, Header, Transfer, Wide};
 
-/// Bits from all four words, first and last among them; of the addresses the
-/// same ones.
-const BITS: [u32; 7] = [127, 96, 95, 64, 33, 9, 0];
-/// Two bits of each address.
+/// Two bits of each address, the same ones.
 const ADDRESS_BITS: [u32; 4] = [127, 96, 95, 64];
 const TRANSFERS: [Transfer; 3] = [Transfer::None, Transfer::Copy, Transfer::Swap];
 
-fn few_bits(rng: &mut Rng) -> u128 {
-    let chosen = rng.below(1 << BITS.len());
-    let bit = |i: usize| u128::from(chosen >> i & 1 == 1) << BITS[i];
-    (0..BITS.len()).map(bit).sum()
+/// Bits from all words, first and last among them; of the addresses the same ones.
+/// In version 2 also from both sides of where fields meet.
+fn bits<B: Bits>() -> Vec<u32> {
+    match B::VERSION {
+        1 => vec![127, 96, 95, 64, 33, 9, 0],
+        _ => vec![255, 224, 223, 192, 161, 128, 127, 80, 79, 16, 8],
+    }
 }
 
-fn small_set(rng: &mut Rng) -> Set {
+fn few_bits<B: Bits>(rng: &mut Rng<B>) -> B {
+    let bits = bits::<B>();
+    let chosen = rng.below(1 << bits.len());
+    let numbers = (0..bits.len()).filter(|i| chosen >> i & 1 == 1);
+    numbers.fold(B::NONE, |all, i| all | B::bit(bits[i]))
+}
+
+fn small_set<B: Bits>(rng: &mut Rng<B>) -> Set<B> {
     let care = few_bits(rng);
     let value = few_bits(rng) & care;
     Set { care, value }
 }
 
-/// A set that cares for few of all 128 bits, or for many.
-fn wide_set(rng: &mut Rng) -> Set {
+/// A set that cares for few of all bits, or for many.
+fn wide_set<B: Bits>(rng: &mut Rng<B>) -> Set<B> {
     let mut care = rng.bits();
     for _ in 0..rng.below(5) {
-        care &= rng.bits();
+        care = care & rng.bits();
     }
     let value = rng.bits() & care;
     Set { care, value }
 }
 
-fn headers() -> Vec<Header> {
-    reference::brute::headers(&BITS)
+fn headers<B: Bits>() -> Vec<B> {
+    headers_over(&bits::<B>())
+}
+
+/// The same test of both versions, by a function of the seeds.
+macro_rules! in_both_versions {
+    ($($name:ident = $check:ident from $first:expr, $number:expr;)*) => {
+        $(
+            #[test]
+            fn $name() {
+                $check::<Header>(($first, $number));
+                $check::<Wide>((1_000_000 + $first, $number));
+            }
+        )*
+    };
+}
+
+in_both_versions! {
+    intersection_is_what_both_contain = check_intersection from 1000, 2000;
+    undo_is_what_the_entry_brings_there = check_undo_of_few_bits from 2000, 3000;
+    undo_over_all_bits = check_undo_of_all_bits from 2500, 6000;
+    lowest_is_the_least_header = check_lowest from 3000, 500;
+    carving_takes_away_exactly_b = check_carving_of_few_bits from 4000, 3000;
+    carving_goes_from_the_first_bit_to_the_last = check_carving_of_all_bits from 5000, 5000;
 }
 
 #[test]
@@ -49,11 +80,33 @@ fn words_are_in_order() {
     let bits = 0x01234567_89abcdef_fedcba98_76543210;
     assert_eq!(from_words(words), bits);
     assert_eq!(to_words(bits), words);
+    let wide = [0, 1, 2, 3, 4, 5, 6, 7].map(|word| 0x01234567 + word);
+    let bits = Wide {
+        old: 0x01234567_01234568_01234569_0123456a,
+        ethernet: 0x0123456b_0123456c_0123456d_0123456e,
+    };
+    assert_eq!(Wide::from_words(wide), bits);
+    assert_eq!(bits.to_words(), wide);
 }
 
+/// Numbered from the last word's last bit, and ordered from the first word on.
 #[test]
-fn intersection_is_what_both_contain() {
-    cases(1000, 2000, |rng| {
+fn bits_are_in_order() {
+    for word in 0..8 {
+        for place in 0..32 {
+            let bit = Wide::bit(Wide::number(word, place));
+            let mut words = [0; 8];
+            words[word] = 1 << place;
+            assert_eq!(bit.to_words(), words);
+            assert_eq!((bit | Wide::bit(0)).first(), bit);
+        }
+    }
+    assert!((1..256).all(|number| Wide::bit(number) > Wide::bit(number - 1)));
+    assert!((1..128).all(|number| Header::bit(number) > Header::bit(number - 1)));
+}
+
+fn check_intersection<B: Bits>(seeds: (u64, u64)) {
+    cases_of(seeds.0, seeds.1, |rng: &mut Rng<B>| {
         let (a, b) = (small_set(rng), small_set(rng));
         let meet = a.intersect(&b);
         assert_eq!(meet.is_some(), a.meets(&b));
@@ -66,33 +119,36 @@ fn intersection_is_what_both_contain() {
 }
 
 /// An entry that does this.
-fn doing(transfer: Transfer, written: Set) -> Entry {
+fn doing<B: Bits>(transfer: Transfer, written: Set<B>) -> Entry<B> {
     Entry {
         transfer,
         rewrite: Rewrite::to(written),
-        ..entry(1, 1, 2)
+        ..Entry::plain(1, 1, 2)
     }
 }
 
 /// What is undone has the headers that the entry brings there and no others; it
 /// is empty if there are none. Gives whether it is.
-fn check_undo(entry: &Entry, wanted: &Set, headers: &[Header]) -> bool {
+fn check_undo<B: Bits>(entry: &Entry<B>, wanted: &Set<B>, headers: &[B]) -> bool {
     let undone = entry.undo(wanted);
-    let there = |header: &Header| wanted.contains(entry.apply(*header));
+    let there = |header: &B| wanted.contains(entry.apply(*header));
     for header in headers {
         let undone = undone.is_some_and(|set| set.contains(*header));
-        assert_eq!(there(header), undone, "{header:x}: {entry:x?}, {wanted:x?}");
+        assert_eq!(
+            there(header),
+            undone,
+            "{header:x?}: {entry:x?}, {wanted:x?}"
+        );
     }
     assert!(undone.is_none_or(|set| set.is_proper()));
     assert_eq!(undone.is_none(), !headers.iter().any(there));
     undone.is_none()
 }
 
-#[test]
-fn undo_is_what_the_entry_brings_there() {
+fn check_undo_of_few_bits<B: Bits>(seeds: (u64, u64)) {
     let headers = headers();
     for transfer in TRANSFERS {
-        cases(2000, 3000, |rng| {
+        cases_of(seeds.0, seeds.1, |rng: &mut Rng<B>| {
             let (wanted, written) = (small_set(rng), small_set(rng));
             check_undo(&doing(transfer, written), &wanted, &headers);
         });
@@ -133,12 +189,11 @@ fn undo_over_four_bits() {
     }
 }
 
-/// Over all 128 bits: for a header of what is undone or one that differs in some;
-/// and the strings of 0, 1 and x have it the same.
-#[test]
-fn undo_over_all_bits() {
+/// For a header of what is undone or one that differs in some bits; and the strings
+/// of 0, 1 and x have it the same.
+fn check_undo_of_all_bits<B: Bits>(seeds: (u64, u64)) {
     let [inside, outside, empty]: [Seen; 3] = Default::default();
-    cases(2500, 6000, |rng| {
+    cases_of(seeds.0, seeds.1, |rng: &mut Rng<B>| {
         let doing = doing(rng.one_of(TRANSFERS), wide_set(rng));
         let mut wanted = wide_set(rng);
         if !rng.once_in(4) {
@@ -153,7 +208,7 @@ fn undo_over_all_bits() {
             return;
         };
         let few = rng.bits() & rng.bits() & rng.bits();
-        let header = (set.value | rng.bits() & !set.care) ^ rng.one_of([0, few]);
+        let header = (set.value | rng.bits() & !set.care) ^ rng.one_of([B::NONE, few]);
         let there = wanted.contains(doing.apply(header));
         assert_eq!(there, set.contains(header));
         inside.count(there);
@@ -203,9 +258,8 @@ fn rewriting_changes_masked_bits_alone() {
     assert_eq!(Rewrite::NONE.apply(0xabcd), 0xabcd);
 }
 
-#[test]
-fn lowest_is_the_least_header() {
-    cases(3000, 500, |rng| {
+fn check_lowest<B: Bits>(seeds: (u64, u64)) {
+    cases_of(seeds.0, seeds.1, |rng: &mut Rng<B>| {
         let set = small_set(rng);
         let least = headers()
             .into_iter()
@@ -216,43 +270,43 @@ fn lowest_is_the_least_header() {
 }
 
 /// Each header of P outside B is in one part, and no other header in any.
-#[test]
-fn carving_takes_away_exactly_b() {
-    cases(4000, 3000, |rng| {
+fn check_carving_of_few_bits<B: Bits>(seeds: (u64, u64)) {
+    cases_of(seeds.0, seeds.1, |rng: &mut Rng<B>| {
         let (p, b) = (small_set(rng), small_set(rng));
-        let parts: Vec<Set> = p.carve(&b).collect();
+        let parts: Vec<Set<B>> = p.carve(&b).collect();
         for header in headers() {
             let expected = usize::from(p.contains(header) && !b.contains(header));
             let holding = parts.iter().filter(|part| part.contains(header)).count();
-            assert_eq!(holding, expected, "{header:x} of {p:x?} by {b:x?}");
+            assert_eq!(holding, expected, "{header:x?} of {p:x?} by {b:x?}");
         }
     });
 }
 
-/// Over all 128 bits: parts are apart, inside P, outside B, in the order of
-/// their opposite bits, and fix no other bit than B's.
-#[test]
-fn carving_goes_from_the_first_bit_to_the_last() {
-    cases(5000, 5000, |rng| {
+/// Parts are apart, inside P, outside B, in the order of their opposite bits, and
+/// fix no other bit than B's.
+fn check_carving_of_all_bits<B: Bits>(seeds: (u64, u64)) {
+    cases_of(seeds.0, seeds.1, |rng: &mut Rng<B>| {
         let (p, mut b) = (wide_set(rng), wide_set(rng));
         if !rng.once_in(4) {
             b.value = b.value & !p.care | p.value & b.care;
         }
-        let parts: Vec<Set> = p.carve(&b).collect();
+        let parts: Vec<Set<B>> = p.carve(&b).collect();
         if !p.meets(&b) {
             assert_eq!(parts, [p]);
             return;
         }
-        let free: Vec<u32> = (0..128)
+        let free: Vec<B> = (0..32 * B::WORDS as u32)
             .rev()
-            .filter(|bit| (b.care & !p.care) >> bit & 1 == 1)
+            .filter(|&bit| (b.care & !p.care).has(bit))
+            .map(B::bit)
             .collect();
         assert_eq!(parts.len(), free.len());
-        for (number, (part, bit)) in parts.iter().zip(&free).enumerate() {
-            let fixed = free[..=number].iter().map(|bit| 1 << bit).sum::<u128>();
+        let mut fixed = B::NONE;
+        for (number, (part, &bit)) in parts.iter().zip(&free).enumerate() {
+            fixed = fixed | bit;
             assert_eq!(part.care, p.care | fixed);
             assert_eq!(part.value & !fixed, p.value);
-            assert_eq!((part.value ^ b.value) & fixed, 1 << bit);
+            assert_eq!((part.value ^ b.value) & fixed, bit);
             assert!(!part.meets(&b));
             assert!(parts[..number].iter().all(|earlier| !part.meets(earlier)));
         }

@@ -46,7 +46,7 @@ fn an_action_and_its_undoing() {
 /// Two wants of one bit are joined; where they disagree, nothing is left.
 #[test]
 fn a_copy_joins_what_is_wanted() {
-    let copy = entry(Transfer::Copy, HeaderSet::ALL_WILD);
+    let copy = entry(Transfer::Copy, HeaderSet::<4>::ALL_WILD);
     let undone = |wanted: &str| {
         let undone = copy.action_undone(&wanted.parse().unwrap());
         undone.map_or("nothing".into(), |set| set.to_string())
@@ -77,7 +77,10 @@ fn headers_of_any_number_of_words() {
     let swap = entry(Transfer::Swap, HeaderSet::ALL_WILD);
     let header = Header([1, 2, 3, 4, 5, 6, 7, 8]);
     assert_eq!(swap.action_on(&header), Header([2, 1, 3, 4, 5, 6, 7, 8]));
-    let one = HeaderSet::only(Header([7]));
+    let one = HeaderSet {
+        care: [u32::MAX],
+        value: [7],
+    };
     for transfer in Transfer::ALL {
         let entry = entry(transfer, HeaderSet::ALL_WILD);
         assert_eq!(entry.action_on(&Header([7])), Header([7]));

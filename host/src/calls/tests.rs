@@ -11,7 +11,7 @@ use crate::verdict::Verdict;
 const SUCCESS: u64 = 24 * 256;
 
 /// What is made of a call that gives this code and leaves these words.
-fn answered(code: u64, words: [u32; 24]) -> Result<[u32; 24], Refusal> {
+fn answered(code: u64, words: [u32; 24]) -> Result<Vec<u32>, Refusal> {
     answer(&[], &Query::all_wild(1), |area| {
         for (bytes, word) in area.chunks_exact_mut(4).zip(words) {
             bytes.copy_from_slice(&word.to_le_bytes());
@@ -98,6 +98,33 @@ fn words_that_are_no_run() {
         words[place] = word;
         assert!(read(&words).is_err(), "word {place} is {word}");
     }
+}
+
+/// An answer of version 2 has four words more, and entries up to 399.
+#[test]
+fn words_of_version_2() {
+    let mut words = [0; raw::VERDICT_WORDS_V2];
+    (words[0], words[2], words[3]) = (1, 4095, 2);
+    (words[11], words[12], words[13]) = (0x0806_0700, 399, 1);
+    let Ok(Verdict::<8>::Reached {
+        header, entries, ..
+    }) = Verdict::read(&words)
+    else {
+        panic!("it is reached");
+    };
+    assert_eq!((header.0[7], &entries[..]), (0x0806_0700, &[399, 1][..]));
+    assert_eq!(Run::<8>::read(&words).unwrap().header, header);
+    for (place, word) in [(12, 400), (13, 511), (14, 1), (27, 1), (3, 17)] {
+        let mut wrong = words;
+        wrong[place] = word;
+        assert!(
+            Verdict::<8>::read(&wrong).is_err(),
+            "word {place} is {word}"
+        );
+        assert!(Run::<8>::read(&wrong).is_err(), "word {place} is {word}");
+    }
+    assert!(Verdict::<4>::read(&words).is_err());
+    assert!(Verdict::<8>::read(&TWO_HOPS).is_err());
 }
 
 #[test]

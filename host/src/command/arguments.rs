@@ -8,60 +8,63 @@ use std::thread::available_parallelism;
 use super::manual::{self, Command, Shell};
 use super::source::Source;
 use super::{Failure, DONE, NO_ANSWER};
-use crate::header::{Header, HeaderSet};
-use crate::limits::MOST_HOPS;
+use crate::header::HeaderSet;
+use crate::limits::{MOST_HOPS, MOST_WORDS};
 use crate::query::{Query, USUAL_BUDGET};
 use given::Given;
 
 pub(super) enum Order {
     /// The help, the version, the manual page or completions; and the status.
     Print(String, u8),
+    Pack {
+        text: Source,
+        file: OsString,
+    },
+    /// Something about a fabric.
+    About(Source, Task),
+}
+
+/// What is done with a fabric once it is read.
+pub(super) enum Task {
     Verdict(Trace),
     Gate(Gate),
     List(Trace),
     Run(Packet),
     Audit(Audit),
-    Show(Source),
-    Pack {
-        text: Source,
-        file: OsString,
-    },
-    Dot(Picture),
+    Show,
+    Widen { file: OsString },
+    Dot(Option<Widest>),
 }
+
+/// What is asked before it is known which fields the fabric's headers have.
+pub(super) type Widest = Query<MOST_WORDS>;
+pub(super) type WidestSet = HeaderSet<MOST_WORDS>;
 
 /// A verdict or a list.
 pub(super) struct Trace {
-    pub(super) file: Source,
-    pub(super) query: Query,
+    pub(super) query: Widest,
     pub(super) json: bool,
 }
 
 /// Nothing here can narrow the question.
 pub(super) struct Gate {
-    pub(super) file: Source,
     pub(super) target: u32,
     pub(super) budget: u32,
 }
 
 pub(super) struct Packet {
-    pub(super) file: Source,
     pub(super) start: u32,
-    pub(super) header: Header,
+    /// It cares for the fields that are named.
+    pub(super) header: WidestSet,
     pub(super) hops: u32,
     pub(super) json: bool,
 }
 
 pub(super) struct Audit {
-    pub(super) file: Source,
     /// Its port is each target in turn.
-    pub(super) query: Query,
+    pub(super) query: Widest,
     pub(super) jobs: usize,
     pub(super) json: bool,
-}
-
-pub(super) struct Picture {
-    pub(super) file: Source,
-    pub(super) query: Option<Query>,
 }
 
 /// More targets than these aren't asked about at a time.
@@ -109,17 +112,18 @@ pub(super) fn parse(words: Vec<OsString>) -> Result<Order, Failure> {
 
 fn order(command: &Command, given: &mut Given) -> Result<Order, Failure> {
     Ok(match command.name {
-        "verdict" => Order::Verdict(given.verdict()?),
-        "gate" => Order::Gate(given.gate()?),
-        "list" => Order::List(given.list()?),
-        "run" => Order::Run(given.packet()?),
-        "audit" => Order::Audit(given.audit()?),
-        "show" => Order::Show(given.source()?),
+        "verdict" => given.about(Given::verdict)?,
+        "gate" => given.about(Given::gate)?,
+        "list" => given.about(Given::list)?,
+        "run" => given.about(Given::packet)?,
+        "audit" => given.about(Given::audit)?,
+        "show" => given.about(|_| Ok(Task::Show))?,
+        "widen" => given.about(Given::widen)?,
+        "dot" => given.about(Given::picture)?,
         "pack" => Order::Pack {
             text: given.source()?,
             file: given.next()?,
         },
-        "dot" => Order::Dot(given.picture()?),
         "man" => print(manual::page()),
         "completions" => print(manual::completions(given.shell()?)),
         "help" if given.is_empty() => print(manual::overview()),
@@ -163,7 +167,16 @@ impl Given {
         self.next().map(Source)
     }
 
-    fn query(&mut self, port: u32) -> Result<Query, Failure> {
+    /// A fabric, and what further words say.
+    fn about(
+        &mut self,
+        task: impl FnOnce(&mut Given) -> Result<Task, Failure>,
+    ) -> Result<Order, Failure> {
+        let file = self.source()?;
+        Ok(Order::About(file, task(self)?))
+    }
+
+    fn query(&mut self, port: u32) -> Result<Widest, Failure> {
         Ok(Query {
             port,
             hops: self.number("--hops")?.unwrap_or(MOST_HOPS),
@@ -172,62 +185,59 @@ impl Given {
         })
     }
 
-    fn verdict(&mut self) -> Result<Trace, Failure> {
-        let file = self.source()?;
+    fn verdict(&mut self) -> Result<Task, Failure> {
         let target = self.port()?;
-        self.trace(file, target)
+        self.trace(target).map(Task::Verdict)
     }
 
     /// A list's target may be what is lost.
-    fn list(&mut self) -> Result<Trace, Failure> {
-        let file = self.source()?;
+    fn list(&mut self) -> Result<Task, Failure> {
         let target = self.target()?;
-        self.trace(file, target.number())
+        self.trace(target.number()).map(Task::List)
     }
 
-    fn trace(&mut self, file: Source, target: u32) -> Result<Trace, Failure> {
+    fn trace(&mut self, target: u32) -> Result<Trace, Failure> {
         Ok(Trace {
-            file,
             query: self.query(target)?,
             json: self.flag("--json"),
         })
     }
 
-    fn gate(&mut self) -> Result<Gate, Failure> {
-        Ok(Gate {
-            file: self.source()?,
+    fn gate(&mut self) -> Result<Task, Failure> {
+        Ok(Task::Gate(Gate {
             target: self.port()?,
             budget: self.number("--budget")?.unwrap_or(USUAL_BUDGET),
-        })
+        }))
     }
 
-    fn packet(&mut self) -> Result<Packet, Failure> {
-        Ok(Packet {
-            file: self.source()?,
+    fn packet(&mut self) -> Result<Task, Failure> {
+        Ok(Task::Run(Packet {
             start: self.port()?,
             header: self.header()?,
             hops: self.number("--hops")?.unwrap_or(MOST_HOPS),
             json: self.flag("--json"),
-        })
+        }))
     }
 
-    fn audit(&mut self) -> Result<Audit, Failure> {
+    fn widen(&mut self) -> Result<Task, Failure> {
+        self.next().map(|file| Task::Widen { file })
+    }
+
+    fn audit(&mut self) -> Result<Task, Failure> {
         let cores = available_parallelism().map_or(1, usize::from);
         let jobs = match self.number("--jobs")? {
             None => cores.min(MOST_JOBS as usize),
             Some(jobs) if (1..=MOST_JOBS).contains(&jobs) => jobs as usize,
             Some(jobs) => return Err(wrong(format!("--jobs is 1 to {MOST_JOBS}, not {jobs}"))),
         };
-        Ok(Audit {
-            file: self.source()?,
+        Ok(Task::Audit(Audit {
             query: self.query(0)?,
             jobs,
             json: self.flag("--json"),
-        })
+        }))
     }
 
-    fn picture(&mut self) -> Result<Picture, Failure> {
-        let file = self.source()?;
+    fn picture(&mut self) -> Result<Task, Failure> {
         // An option asks about a target, so it needs one.
         let query = match self.is_empty() && !self.has_settings() {
             true => None,
@@ -236,7 +246,7 @@ impl Given {
                 Some(self.query(target)?)
             }
         };
-        Ok(Picture { file, query })
+        Ok(Task::Dot(query))
     }
 
     fn command(&mut self) -> Result<&'static Command, Failure> {

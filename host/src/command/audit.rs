@@ -22,9 +22,9 @@ const MOST_AREA: usize = 64 << 20;
 const NOTHING_TO_ISOLATE: &str = "it has no edge ports, so there is nothing to audit";
 
 /// What is known of one target.
-struct Row {
-    target: Edge,
-    judged: Result<Judged, Refusal>,
+struct Row<const N: usize> {
+    target: Edge<N>,
+    judged: Result<Judged<N>, Refusal>,
     senders: Result<Senders, Refusal>,
 }
 
@@ -35,15 +35,19 @@ struct Senders {
     own: Vec<u16>,
 }
 
-pub(super) fn audit(audit: &Audit, out: Output) -> Result<u8, Failure> {
-    let loaded = audit.file.load_named()?;
+pub(super) fn audit<const N: usize>(
+    loaded: &Loaded<N>,
+    audit: &Audit,
+    out: Output,
+) -> Result<u8, Failure> {
     let edges = &loaded.fabric.edges;
     if edges.is_empty() {
-        return Err(audit.file.failed(NOTHING_TO_ISOLATE));
+        return Err(loaded.failed(NOTHING_TO_ISOLATE));
     }
-    let inquiry = Inquiry::of("audit", &loaded, Asked::EveryTarget(audit.query));
+    let query = loaded.query(&audit.query)?;
+    let inquiry = Inquiry::of("audit", loaded, Asked::EveryTarget(query));
     let rows = threads::each(edges, audit.jobs, "edge ports", |target| {
-        Row::examine(&loaded, target, &audit.query)
+        Row::examine(loaded, target, &query)
     })?;
     if let Some(refusal) = refused_for_all(&rows) {
         return Err(inquiry.refused(refusal.clone()));
@@ -62,13 +66,13 @@ pub(super) fn audit(audit: &Audit, out: Output) -> Result<u8, Failure> {
 }
 
 /// A refusal that has nothing to do with the target.
-fn refused_for_all(rows: &[Row]) -> Option<&Refusal> {
+fn refused_for_all<const N: usize>(rows: &[Row<N>]) -> Option<&Refusal> {
     let refusal = rows.first()?.judged.as_ref().err()?;
     matches!(refusal.question, Question::Hops | Question::Asked).then_some(refusal)
 }
 
-impl Row {
-    fn examine(loaded: &Loaded, target: &Edge, query: &Query) -> Row {
+impl<const N: usize> Row<N> {
+    fn examine(loaded: &Loaded<N>, target: &Edge<N>, query: &Query<N>) -> Row<N> {
         let query = Query {
             port: u32::from(target.port),
             ..*query
@@ -88,7 +92,7 @@ impl Row {
 }
 
 impl Senders {
-    fn of(finds: Finds, fabric: &Fabric, target: &Edge) -> Senders {
+    fn of<const N: usize>(finds: Finds<N>, fabric: &Fabric<N>, target: &Edge<N>) -> Senders {
         let mut senders = Senders::default();
         for find in finds {
             let Some(edge) = fabric.edge(find.port) else {

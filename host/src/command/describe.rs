@@ -1,33 +1,35 @@
 //! Packets and ways in words.
 
-use std::fmt::Write;
-
 use super::loaded::Loaded;
 use crate::action::Transfer;
 use crate::field::Field;
 use crate::header::{Header, HeaderSet};
 use crate::record::Entry;
 use crate::takers::Hop;
+use crate::version::Version;
 
 /// A line for each field.
-pub(super) fn packet(header: &Header) -> String {
-    let mut text = String::new();
-    for field in Field::ALL {
-        let _ = writeln!(text, "  {:<9} {}", field.name(), header.in_words(field));
-    }
-    text
+pub(super) fn packet<const N: usize>(header: &Header<N>) -> String {
+    let fields: Vec<Field> = Field::all_in(Version::of::<N>()).collect();
+    let names = fields.iter().map(|field| field.name().len());
+    let width = 1 + names.max().unwrap_or_default();
+    let line = |field: &Field| {
+        let (name, value) = (field.name(), header.in_words(*field));
+        format!("  {name:<width$} {value}\n")
+    };
+    fields.iter().map(line).collect()
 }
 
 /// Hop by hop, each entry with its ports, match and rewrite, and which others
 /// might have taken the packet. Where addresses are copied or swapped before the
 /// rewrite, also what the header becomes.
-pub(super) fn path(loaded: &Loaded, way: &[Hop]) -> String {
+pub(super) fn path<const N: usize>(loaded: &Loaded<N>, way: &[Hop<N>]) -> String {
     let hops = way.iter().zip(1..);
     hops.map(|(hop, place)| one_hop(loaded, place, hop))
         .collect()
 }
 
-fn one_hop(loaded: &Loaded, place: usize, hop: &Hop) -> String {
+fn one_hop<const N: usize>(loaded: &Loaded<N>, place: usize, hop: &Hop<N>) -> String {
     let entry = &hop.entry;
     let (in_port, out_port) = (loaded.port(entry.in_port), loaded.port(entry.out_port));
     let onward = match (entry.out_port, loaded.fabric.link_from(entry.out_port)) {
@@ -64,7 +66,7 @@ fn one_hop(loaded: &Loaded, place: usize, hop: &Hop) -> String {
 }
 
 /// Who else might take a packet at this hop.
-pub(super) fn others(hop: &Hop) -> Option<String> {
+pub(super) fn others<const N: usize>(hop: &Hop<N>) -> Option<String> {
     match &hop.equals()[..] {
         [] => None,
         equals => Some(format!(
@@ -98,7 +100,7 @@ pub(super) fn and(numbers: &[u16]) -> String {
     }
 }
 
-pub(super) fn rewrite(entry: &Entry) -> String {
+pub(super) fn rewrite<const N: usize>(entry: &Entry<N>) -> String {
     match entry.rewrite == HeaderSet::ALL_WILD {
         true => "none".into(),
         false => entry.rewrite.to_string(),

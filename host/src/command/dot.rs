@@ -5,7 +5,7 @@ mod switches;
 use std::collections::BTreeMap;
 use std::fmt::Write;
 
-use super::arguments::Picture;
+use super::arguments::Widest;
 use super::inquiry::{Asked, Inquiry};
 use super::judged::way;
 use super::loaded::Loaded;
@@ -29,17 +29,20 @@ const MOST_NAMED: usize = 6;
 const GUESSED: &str = "dashed boxes are guessed: ports that entries join";
 
 /// What is marked.
-struct Marks {
+struct Marks<const N: usize> {
     target: u32,
     /// What the target is, in words, and how it is drawn.
     judged: String,
     style: &'static str,
-    way: Vec<Hop>,
+    way: Vec<Hop<N>>,
 }
 
-pub(super) fn dot(picture: &Picture, out: Output) -> Result<u8, Failure> {
-    let loaded = picture.file.load_named()?;
-    let text = match picture.query {
+pub(super) fn dot<const N: usize>(
+    loaded: &Loaded<N>,
+    query: Option<&Widest>,
+    out: Output,
+) -> Result<u8, Failure> {
+    let text = match query {
         None => {
             let (file, digest) = (&loaded.name, loaded.digest);
             let openflow = match loaded.fabric.openflow {
@@ -47,21 +50,22 @@ pub(super) fn dot(picture: &Picture, out: Output) -> Result<u8, Failure> {
                 openflow => format!(", {openflow}"),
             };
             let said = format!("// {file}, sha256 {digest}{openflow}, by mwishovala {VERSION}\n");
-            said + &draw(&loaded, None)
+            said + &draw(loaded, None)
         }
         Some(query) => {
-            let inquiry = Inquiry::of("dot", &loaded, Asked::Target(query));
+            let query = loaded.query(query)?;
+            let inquiry = Inquiry::of("dot", loaded, Asked::Target(query));
             let marks = judge(&inquiry, &query)?;
             let said = inquiry.lines().into_iter();
             let said: String = said.map(|line| format!("// {line}\n")).collect();
-            said + &draw(&loaded, Some(&marks))
+            said + &draw(loaded, Some(&marks))
         }
     };
     out.write_all(text.as_bytes())?;
     Ok(DONE)
 }
 
-fn judge(inquiry: &Inquiry, query: &Query) -> Result<Marks, Failure> {
+fn judge<const N: usize>(inquiry: &Inquiry<N>, query: &Query<N>) -> Result<Marks<N>, Failure> {
     let verdict = threads::call(|| verdict(&inquiry.loaded.bytes, query))?
         .map_err(|refusal| inquiry.refused(refusal))?;
     let target = query.port;
@@ -86,7 +90,7 @@ fn judge(inquiry: &Inquiry, query: &Query) -> Result<Marks, Failure> {
 
 /// Ports are nodes, in a box with the other ports of their switch. Links and
 /// entries are arrows; those of the way are marked.
-fn draw(loaded: &Loaded, marks: Option<&Marks>) -> String {
+fn draw<const N: usize>(loaded: &Loaded<N>, marks: Option<&Marks<N>>) -> String {
     let switches = switches(&loaded.fabric, &loaded.names);
     let mut text = String::from("digraph fabric {\n  rankdir=LR;\n  node [shape=circle];\n");
     if switches.iter().any(|switch| switch.name.is_none()) {
@@ -110,7 +114,7 @@ fn draw(loaded: &Loaded, marks: Option<&Marks>) -> String {
     text + "}\n"
 }
 
-fn node(loaded: &Loaded, marks: Option<&Marks>, port: u16) -> String {
+fn node<const N: usize>(loaded: &Loaded<N>, marks: Option<&Marks<N>>, port: u16) -> String {
     let mut lines = vec![port.to_string()];
     lines.extend(loaded.names.of_port(port).map(String::from));
     let edge = loaded.fabric.edge(port);
@@ -125,7 +129,7 @@ fn node(loaded: &Loaded, marks: Option<&Marks>, port: u16) -> String {
     }
 }
 
-fn links(loaded: &Loaded, way: &[Hop]) -> String {
+fn links<const N: usize>(loaded: &Loaded<N>, way: &[Hop<N>]) -> String {
     let used: Vec<u16> = way.iter().map(|hop| hop.entry.out_port).collect();
     let mut text = String::new();
     for link in &loaded.fabric.links {
@@ -140,7 +144,7 @@ fn links(loaded: &Loaded, way: &[Hop]) -> String {
 
 /// The way's entries, an arrow for each hop, with the others that might have
 /// taken the packet.
-fn marked(way: &[Hop]) -> String {
+fn marked<const N: usize>(way: &[Hop<N>]) -> String {
     let mut text = String::new();
     for (hop, place) in way.iter().zip(1..) {
         let (in_port, out_port) = (hop.entry.in_port, hop.entry.out_port);
@@ -155,7 +159,7 @@ fn marked(way: &[Hop]) -> String {
 
 /// The other entries, an arrow for all that have the same ports. A drop's arrow
 /// goes to a point of its in-port's own.
-fn others(loaded: &Loaded, way: &[Hop]) -> String {
+fn others<const N: usize>(loaded: &Loaded<N>, way: &[Hop<N>]) -> String {
     let mut arrows: BTreeMap<(u16, u16), Vec<String>> = BTreeMap::new();
     for (number, entry) in loaded.fabric.numbered() {
         if way.iter().all(|hop| hop.number != number) {
@@ -185,7 +189,7 @@ fn others(loaded: &Loaded, way: &[Hop]) -> String {
 }
 
 /// An entry's number, and what it does to a header.
-fn named(number: u16, entry: &Entry) -> String {
+fn named<const N: usize>(number: u16, entry: &Entry<N>) -> String {
     match action(entry) {
         Some(action) => format!("{number} ({action})"),
         None => number.to_string(),

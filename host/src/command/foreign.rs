@@ -13,7 +13,7 @@ pub(super) enum Share {
 }
 
 impl Share {
-    pub(super) fn of(find: &Find, edge: &Edge, target: &Edge) -> Share {
+    pub(super) fn of<const N: usize>(find: &Find<N>, edge: &Edge<N>, target: &Edge<N>) -> Share {
         if edge.group != target.group || !find.set.meets(&edge.admitted) {
             Share::Foreign
         } else if find.set.is_within(&edge.admitted) {

@@ -3,8 +3,10 @@
 use std::io::{self, Write};
 
 use super::arguments::Gate;
+use super::covered::covered;
 use super::inquiry::{Asked, Inquiry};
 use super::judged::{leads_further, way};
+use super::loaded::Loaded;
 use super::{describe, threads, Failure, Output, ISOLATED, REACHED};
 use crate::calls::verdict;
 use crate::query::Query;
@@ -12,13 +14,16 @@ use crate::takers::Hop;
 use crate::verdict::Verdict;
 
 /// The question is fixed but for the target: every header, and all hops.
-pub(super) fn gate(gate: &Gate, out: Output) -> Result<u8, Failure> {
-    let loaded = gate.file.load()?;
+pub(super) fn gate<const N: usize>(
+    loaded: &Loaded<N>,
+    gate: &Gate,
+    out: Output,
+) -> Result<u8, Failure> {
     let query = Query {
         budget: gate.budget,
-        ..Query::all_wild(gate.target)
+        ..Query::<N>::whole(gate.target)
     };
-    let inquiry = Inquiry::of("gate", &loaded, Asked::Target(query));
+    let inquiry = Inquiry::of("gate", loaded, Asked::Target(query));
     let verdict = threads::call(|| verdict(&loaded.bytes, &query))?
         .map_err(|refusal| inquiry.refused(refusal))?;
     let (target, hops, digest) = (query.port, query.hops, loaded.digest);
@@ -29,9 +34,10 @@ pub(super) fn gate(gate: &Gate, out: Output) -> Result<u8, Failure> {
                 let note = format!("links could lead further than {hops} hops to port {target}");
                 let _ = writeln!(io::stderr(), "mwishovala: {note}");
             }
+            let every_header = covered::<N>().every_header;
             writeln!(
                 out,
-                "isolated: port {target}, every IPv4 header, {hops} hops, sha256 {digest}"
+                "isolated: port {target}, {every_header}, {hops} hops, sha256 {digest}"
             )?;
             Ok(ISOLATED)
         }
@@ -54,7 +60,7 @@ pub(super) fn gate(gate: &Gate, out: Output) -> Result<u8, Failure> {
 }
 
 /// At which hops other entries of the same priority might take the packet.
-fn chosen(way: &[Hop]) -> String {
+fn chosen<const N: usize>(way: &[Hop<N>]) -> String {
     let hops = way.iter().zip(1..);
     let hops: Vec<u16> = hops
         .filter(|(hop, _)| !hop.equals().is_empty())

@@ -1,5 +1,6 @@
 //! What was asked, which every answer says.
 
+use super::covered::covered;
 use super::json::{self, Json, Members};
 use super::judged::leads_further;
 use super::loaded::Loaded;
@@ -11,32 +12,33 @@ use crate::openflow::OpenFlow;
 use crate::query::{Query, Target};
 use crate::refusal::{Question, Refusal};
 
-/// What 'isolated', or any other answer, is about.
-const COVERED: &str = "IPv4 headers; ARP, IPv6 and other frames are not told apart";
-
 /// What is asked of a fabric.
-pub(super) struct Inquiry<'l> {
+pub(super) struct Inquiry<'l, const N: usize> {
     command: &'static str,
-    pub(super) loaded: &'l Loaded,
-    asked: Asked,
+    pub(super) loaded: &'l Loaded<N>,
+    asked: Asked<N>,
 }
 
 #[derive(Clone, Copy)]
-pub(super) enum Asked {
+pub(super) enum Asked<const N: usize> {
     /// What gets out at the query's port.
-    Target(Query),
+    Target(Query<N>),
     /// What gets out at each edge port.
-    EveryTarget(Query),
+    EveryTarget(Query<N>),
     /// Where a packet goes.
     Packet {
         start: u32,
-        header: Header,
+        header: Header<N>,
         hops: u32,
     },
 }
 
-impl Inquiry<'_> {
-    pub(super) fn of<'l>(command: &'static str, loaded: &'l Loaded, asked: Asked) -> Inquiry<'l> {
+impl<const N: usize> Inquiry<'_, N> {
+    pub(super) fn of<'l>(
+        command: &'static str,
+        loaded: &'l Loaded<N>,
+        asked: Asked<N>,
+    ) -> Inquiry<'l, N> {
         Inquiry {
             command,
             loaded,
@@ -45,7 +47,7 @@ impl Inquiry<'_> {
     }
 
     /// The query of a verdict or a list.
-    fn query(&self) -> Option<&Query> {
+    fn query(&self) -> Option<&Query<N>> {
         match &self.asked {
             Asked::Target(query) | Asked::EveryTarget(query) => Some(query),
             Asked::Packet { .. } => None,
@@ -143,7 +145,7 @@ impl Inquiry<'_> {
         if let Some(query) = self.query() {
             lines.push(("budget", format!("{} units", query.budget)));
         }
-        lines.push(("covers", COVERED.into()));
+        lines.push(("covers", covered::<N>().frames.into()));
         lines.push(("version", format!("mwishovala {VERSION}")));
         let lines = lines.into_iter();
         lines
@@ -159,7 +161,7 @@ impl Inquiry<'_> {
         }
     }
 
-    fn target(&self, query: &Query) -> String {
+    fn target(&self, query: &Query<N>) -> String {
         match query.target() {
             Target::Port(port) => format!("port {}", self.loaded.port(port)),
             Target::Lost => "what is lost: no entry takes it".into(),
@@ -200,7 +202,7 @@ impl Inquiry<'_> {
         }
         let mut members = self.loaded.in_json();
         members.push(("asked", Json::Object(asked)));
-        members.push(("covers", json::text(COVERED)));
+        members.push(("covers", json::text(covered::<N>().frames)));
         members
     }
 

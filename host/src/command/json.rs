@@ -10,6 +10,7 @@ use crate::field::Field;
 use crate::header::{Header, HeaderSet};
 use crate::refusal::Refusal;
 use crate::takers::Hop;
+use crate::version::Version;
 
 /// A JSON value.
 pub(super) enum Json {
@@ -109,12 +110,16 @@ pub(super) fn head(command: Option<&str>) -> Members {
 }
 
 /// Addresses are text, other fields numbers.
-pub(super) fn header(header: &Header) -> Json {
-    let value = |field: Field| of_field(field, header);
-    Json::Object(Field::ALL.map(|field| (field.name(), value(field))).into())
+pub(super) fn header<const N: usize>(header: &Header<N>) -> Json {
+    let fields = Field::all_in(Version::of::<N>());
+    Json::Object(
+        fields
+            .map(|field| (field.name(), of_field(field, header)))
+            .collect(),
+    )
 }
 
-fn of_field(field: Field, header: &Header) -> Json {
+fn of_field<const N: usize>(field: Field, header: &Header<N>) -> Json {
     match field.is_address() {
         true => Json::Text(header.in_words(field)),
         false => number(header.get(field)),
@@ -122,12 +127,12 @@ fn of_field(field: Field, header: &Header) -> Json {
 }
 
 /// In words, field by field where it cares, and as document 01's care and value.
-pub(super) fn set(set: &HeaderSet) -> Json {
+pub(super) fn set<const N: usize>(set: &HeaderSet<N>) -> Json {
     in_words(set, &set.to_string())
 }
 
-fn in_words(set: &HeaderSet, said: &str) -> Json {
-    let words = |words: &[u32; 4]| list(words.iter().map(|word| text(format!("{word:08x}"))));
+fn in_words<const N: usize>(set: &HeaderSet<N>, said: &str) -> Json {
+    let words = |words: &[u32; N]| list(words.iter().map(|word| text(format!("{word:08x}"))));
     Json::Object(vec![
         ("text", text(said)),
         ("fields", fields(set)),
@@ -136,9 +141,10 @@ fn in_words(set: &HeaderSet, said: &str) -> Json {
     ])
 }
 
-fn fields(set: &HeaderSet) -> Json {
+fn fields<const N: usize>(set: &HeaderSet<N>) -> Json {
     let (value, mask) = (Header(set.value), Header(set.care));
-    let cared_for = Field::ALL.into_iter().filter(|field| mask.get(*field) != 0);
+    let fields = Field::all_in(Version::of::<N>());
+    let cared_for = fields.filter(|field| mask.get(*field) != 0);
     let part = |field: Field| {
         let members = vec![
             ("value", of_field(field, &value)),
@@ -156,7 +162,7 @@ pub(super) fn numbers(values: &[u16]) -> Json {
 
 /// Entries by their numbers, with what they say, and which others might have
 /// taken the packet.
-pub(super) fn path(way: &[Hop]) -> Json {
+pub(super) fn path<const N: usize>(way: &[Hop<N>]) -> Json {
     list(way.iter().map(|hop| {
         let entry = &hop.entry;
         Json::Object(vec![

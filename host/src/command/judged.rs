@@ -12,26 +12,26 @@ use crate::refusal::Refusal;
 use crate::takers::Hop;
 use crate::verdict::Verdict;
 
-pub(super) struct Judged {
-    pub(super) verdict: Verdict,
+pub(super) struct Judged<const N: usize> {
+    pub(super) verdict: Verdict<N>,
     /// The way of the packet that the verdict names.
-    pub(super) way: Vec<Hop>,
+    pub(super) way: Vec<Hop<N>>,
     /// Why no host sends that packet.
     pub(super) misfits: Vec<Misfit>,
     /// One of the same find that a host can send, by the same way.
-    pub(super) sendable: Option<Sendable>,
+    pub(super) sendable: Option<Sendable<N>>,
     /// Whether links could lead to the target in more hops than were asked about.
     pub(super) further: bool,
 }
 
 /// A packet that a host can send. Others might take it than take the verdict's.
-pub(super) struct Sendable {
-    pub(super) header: Header,
-    pub(super) way: Vec<Hop>,
+pub(super) struct Sendable<const N: usize> {
+    pub(super) header: Header<N>,
+    pub(super) way: Vec<Hop<N>>,
 }
 
-impl Judged {
-    pub(super) fn of(loaded: &Loaded, query: &Query) -> Result<Judged, Refusal> {
+impl<const N: usize> Judged<N> {
+    pub(super) fn of(loaded: &Loaded<N>, query: &Query<N>) -> Result<Judged<N>, Refusal> {
         let fabric = &loaded.fabric;
         let mut judged = Judged {
             verdict: calls::verdict(&loaded.bytes, query)?,
@@ -79,7 +79,7 @@ impl Judged {
                 ..
             } => {
                 let sendable = self.sendable.as_ref();
-                let equals = |sendable: &Sendable| {
+                let equals = |sendable: &Sendable<N>| {
                     let hops = sendable.way.iter();
                     json::list(hops.map(|hop| json::numbers(&hop.equals())))
                 };
@@ -105,13 +105,17 @@ impl Judged {
 
 /// The way that the library says; where it says an entry that the file doesn't
 /// have, it is none that this host knows.
-pub(super) fn way(fabric: &Fabric, header: &Header, entries: &[u16]) -> Result<Vec<Hop>, Refusal> {
+pub(super) fn way<const N: usize>(
+    fabric: &Fabric<N>,
+    header: &Header<N>,
+    entries: &[u16],
+) -> Result<Vec<Hop<N>>, Refusal> {
     fabric.hops(header, entries).ok_or_else(Refusal::unknown)
 }
 
 /// Whether links could lead to the query's target, or to where packets may be
 /// lost, in more hops than it asks about.
-pub(super) fn leads_further(fabric: &Fabric, query: &Query) -> bool {
+pub(super) fn leads_further<const N: usize>(fabric: &Fabric<N>, query: &Query<N>) -> bool {
     match query.target() {
         Target::Lost => fabric.leads_on(query.hops),
         Target::Port(port) => {

@@ -21,20 +21,29 @@ use crate::query::{Query, Target};
 /// The most bytes that a list may take.
 const MOST_AREA: usize = 256 << 20;
 
-pub(super) fn list(trace: &Trace, out: Output) -> Result<u8, Failure> {
-    let loaded = trace.file.load_named()?;
-    let inquiry = Inquiry::of("list", &loaded, Asked::Target(trace.query));
+pub(super) fn list<const N: usize>(
+    loaded: &Loaded<N>,
+    trace: &Trace,
+    out: Output,
+) -> Result<u8, Failure> {
+    let query = loaded.query(&trace.query)?;
+    let inquiry = Inquiry::of("list", loaded, Asked::Target(query));
     let mut area = Vec::new();
-    let finds = threads::call(|| list_growing(&loaded.bytes, &mut area, MOST_AREA, &trace.query))?
+    let finds = threads::call(|| list_growing(&loaded.bytes, &mut area, MOST_AREA, &query))?
         .map_err(|refusal| inquiry.refused(refusal))?;
     match trace.json {
-        true => in_json(out, &inquiry, &trace.query, finds)?,
-        false => in_words(out, &inquiry, trace.query.target(), finds)?,
+        true => in_json(out, &inquiry, &query, finds)?,
+        false => in_words(out, &inquiry, query.target(), finds)?,
     }
     Ok(DONE)
 }
 
-fn in_words(out: Output, inquiry: &Inquiry, target: Target, finds: Finds) -> io::Result<()> {
+fn in_words<const N: usize>(
+    out: Output,
+    inquiry: &Inquiry<N>,
+    target: Target,
+    finds: Finds<N>,
+) -> io::Result<()> {
     let loaded = inquiry.loaded;
     let only = inquiry.only();
     let (nothing, of_what) = match target {
@@ -74,14 +83,14 @@ fn in_words(out: Output, inquiry: &Inquiry, target: Target, finds: Finds) -> io:
 const OR: &str = "or: of the same priority, and might take these packets too, or some of them";
 
 /// What the words in the table mean that need it.
-fn notes(
+fn notes<const N: usize>(
     out: Output,
-    loaded: &Loaded,
+    loaded: &Loaded<N>,
     target: Target,
-    equals: &Equals,
-    mut finds: Finds,
+    equals: &Equals<N>,
+    mut finds: Finds<N>,
 ) -> io::Result<()> {
-    let has_choice = |find: Find| equals.along(&find).iter().any(|at| !at.is_empty());
+    let has_choice = |find: Find<N>| equals.along(&find).iter().any(|at| !at.is_empty());
     if finds.clone().any(has_choice) {
         writeln!(out, "\n{OR}")?;
     }
@@ -94,13 +103,18 @@ fn notes(
 const HEADING: [&str; 6] = ["from", "group", "whose", "hops", "entries", "headers"];
 
 /// The find's group, and whose packets it holds.
-fn whose(loaded: &Loaded, target: u32, find: &Find) -> Option<(u16, Share)> {
+fn whose<const N: usize>(loaded: &Loaded<N>, target: u32, find: &Find<N>) -> Option<(u16, Share)> {
     let edge = loaded.fabric.edge(find.port)?;
     let target = loaded.fabric.edge(u16::try_from(target).ok()?)?;
     Some((edge.group, Share::of(find, edge, target)))
 }
 
-fn row(loaded: &Loaded, target: u32, equals: &Equals, find: &Find) -> [String; 6] {
+fn row<const N: usize>(
+    loaded: &Loaded<N>,
+    target: u32,
+    equals: &Equals<N>,
+    find: &Find<N>,
+) -> [String; 6] {
     let (group, share) = match whose(loaded, target, find) {
         Some((group, share)) => (group.to_string(), share.name()),
         None => ("-".into(), "-"),
@@ -116,12 +130,17 @@ fn row(loaded: &Loaded, target: u32, equals: &Equals, find: &Find) -> [String; 6
 }
 
 /// The entries of a find, each with the others that might take its packets.
-fn entries(equals: &Equals, find: &Find) -> String {
+fn entries<const N: usize>(equals: &Equals<N>, find: &Find<N>) -> String {
     let entries = find.entries.iter().zip(equals.along(find));
     describe::listed(entries.map(|(entry, equals)| format!("{entry}{}", describe::or(&equals))))
 }
 
-fn in_json(out: Output, inquiry: &Inquiry, query: &Query, finds: Finds) -> io::Result<()> {
+fn in_json<const N: usize>(
+    out: Output,
+    inquiry: &Inquiry<N>,
+    query: &Query<N>,
+    finds: Finds<N>,
+) -> io::Result<()> {
     let loaded = inquiry.loaded;
     let further = leads_further(&loaded.fabric, query);
     let mut members = inquiry.in_json();
@@ -142,7 +161,12 @@ fn in_json(out: Output, inquiry: &Inquiry, query: &Query, finds: Finds) -> io::R
     out.write_all(b"]}\n")
 }
 
-fn find_in_json(loaded: &Loaded, target: u32, equals: &Equals, find: &Find) -> Json {
+fn find_in_json<const N: usize>(
+    loaded: &Loaded<N>,
+    target: u32,
+    equals: &Equals<N>,
+    find: &Find<N>,
+) -> Json {
     let mut members = vec![("port", json::number(find.port))];
     if let Some((group, share)) = whose(loaded, target, find) {
         members.push(("group", json::number(group)));
@@ -153,7 +177,7 @@ fn find_in_json(loaded: &Loaded, target: u32, equals: &Equals, find: &Find) -> J
 }
 
 /// The way of a find, and its headers.
-fn way_in_json(equals: &Equals, find: &Find) -> Members {
+fn way_in_json<const N: usize>(equals: &Equals<N>, find: &Find<N>) -> Members {
     let equals = equals.along(find).into_iter();
     vec![
         ("hops", json::number(find.hops)),

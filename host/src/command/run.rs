@@ -10,12 +10,16 @@ use crate::calls;
 use crate::run::{Fate, Run};
 use crate::takers::Hop;
 
-pub(super) fn run(packet: &Packet, out: Output) -> Result<u8, Failure> {
-    let loaded = packet.file.load_named()?;
-    let (start, header, hops) = (packet.start, packet.header, packet.hops);
+pub(super) fn run<const N: usize>(
+    loaded: &Loaded<N>,
+    packet: &Packet,
+    out: Output,
+) -> Result<u8, Failure> {
+    let (start, hops) = (packet.start, packet.hops);
+    let header = loaded.set(&packet.header)?.lowest();
     let inquiry = Inquiry::of(
         "run",
-        &loaded,
+        loaded,
         Asked::Packet {
             start,
             header,
@@ -28,24 +32,24 @@ pub(super) fn run(packet: &Packet, out: Output) -> Result<u8, Failure> {
     let way = way.map_err(|refusal| inquiry.refused(refusal))?;
     if packet.json {
         let mut members = inquiry.in_json();
-        members.extend(in_json(&loaded, &run, &way));
+        members.extend(in_json(loaded, &run, &way));
         json::write(out, members)?;
     } else {
-        out.write_all(in_words(&loaded, &run, &way).as_bytes())?;
+        out.write_all(in_words(loaded, &run, &way).as_bytes())?;
         inquiry.in_words(out)?;
     }
     Ok(DONE)
 }
 
 /// The entries between which the run stopped, if that is why.
-fn tied(loaded: &Loaded, run: &Run) -> Vec<u16> {
+fn tied<const N: usize>(loaded: &Loaded<N>, run: &Run<N>) -> Vec<u16> {
     match run.fate {
         Fate::Tied => loaded.fabric.takers(run.port, &run.header),
         _ => Vec::new(),
     }
 }
 
-fn in_words(loaded: &Loaded, run: &Run, way: &[Hop]) -> String {
+fn in_words<const N: usize>(loaded: &Loaded<N>, run: &Run<N>, way: &[Hop<N>]) -> String {
     let (port, hops) = (loaded.port(run.port), describe::hops(run.hops));
     let fate = match run.fate {
         Fate::Left => format!("left: the packet gets out at port {port} after {hops}"),
@@ -71,7 +75,7 @@ fn in_words(loaded: &Loaded, run: &Run, way: &[Hop]) -> String {
     )
 }
 
-fn in_json(loaded: &Loaded, run: &Run, way: &[Hop]) -> Members {
+fn in_json<const N: usize>(loaded: &Loaded<N>, run: &Run<N>, way: &[Hop<N>]) -> Members {
     let fate = match run.fate {
         Fate::Left => "left",
         Fate::Dropped => "dropped",

@@ -7,7 +7,7 @@ use std::os::fd::AsFd;
 use std::os::unix::fs::MetadataExt;
 use std::path::Path;
 
-use super::loaded::{named, Loaded};
+use super::loaded::{named, Loaded, NO_FABRIC};
 use super::Failure;
 use crate::digest::Digest;
 use crate::fabric::Fabric;
@@ -66,23 +66,21 @@ impl Source {
         Failure::Error(format!("{}: {why}", self.name()))
     }
 
-    /// The fabric, and the names that are kept beside it.
-    pub(super) fn load_named(&self) -> Result<Loaded, Failure> {
-        let loaded = self.load()?;
-        let names = match self.is_standard() {
-            true => Names::default(),
+    /// The names that are kept beside the fabric.
+    pub(super) fn names(&self) -> Result<Names, Failure> {
+        match self.is_standard() {
+            true => Ok(Names::default()),
             false => Names::beside(self.0.as_ref()).map_err(|unreadable| {
                 let file = printable(unreadable.file.as_os_str());
                 Failure::Error(format!("{file}: {}", unreadable.why))
-            })?,
-        };
-        Ok(Loaded { names, ..loaded })
+            }),
+        }
     }
 
-    /// The fabric, if the proved library accepts it.
-    pub(super) fn load(&self) -> Result<Loaded, Failure> {
-        let bytes = self.read()?;
-        match Fabric::read(&bytes) {
+    /// The fabric that these bytes are, which were read here, if the proved library
+    /// accepts it as one of this version.
+    pub(super) fn load<const N: usize>(&self, bytes: Vec<u8>) -> Result<Loaded<N>, Failure> {
+        match Fabric::accepted(&bytes) {
             Ok(fabric) => Ok(Loaded {
                 name: self.name(),
                 digest: Digest::of(&bytes),
@@ -92,7 +90,10 @@ impl Source {
             }),
             Err(refusal) => Err(Failure::Refused {
                 file: self.name(),
-                about: vec![("fabric", named(&self.name(), &Digest::of(&bytes), None))],
+                about: vec![(
+                    "fabric",
+                    named(&self.name(), &Digest::of(&bytes), NO_FABRIC),
+                )],
                 refusal: match looks_like_text(&bytes, &refusal) {
                     true => Refusal {
                         reason: format!("{}; it looks like text: pack it first", refusal.reason),

@@ -7,7 +7,7 @@ use crate::fabric::Fabric;
 use crate::ties::{Tie, MOST_PARTS};
 
 /// How many there are and a line for each; nothing if there are none.
-pub(super) fn in_words(loaded: &Loaded) -> Vec<String> {
+pub(super) fn in_words<const N: usize>(loaded: &Loaded<N>) -> Vec<String> {
     let mut ties = loaded.fabric.ties();
     // Those that make a difference first.
     ties.sort_by_key(|tie| tie.same);
@@ -27,7 +27,7 @@ pub(super) fn in_words(loaded: &Loaded) -> Vec<String> {
     lines
 }
 
-fn one_tie(loaded: &Loaded, tie: &Tie) -> String {
+fn one_tie<const N: usize>(loaded: &Loaded<N>, tie: &Tie<N>) -> String {
     let (entries, port) = (entries(&tie.entries), loaded.port(tie.in_port));
     let what = match tie.header {
         Some(header) => format!("either might take {header}"),
@@ -41,7 +41,7 @@ fn one_tie(loaded: &Loaded, tie: &Tie) -> String {
     format!("  {entries} at port {port}, priority {priority}: {what}{same}")
 }
 
-pub(super) fn in_json(fabric: &Fabric) -> Json {
+pub(super) fn in_json<const N: usize>(fabric: &Fabric<N>) -> Json {
     json::list(fabric.ties().iter().map(|tie| {
         let header = tie.header.as_ref();
         Json::Object(vec![

@@ -1,23 +1,29 @@
 //! `mwishovala verdict`.
 
 use super::arguments::Trace;
+use super::covered::covered;
 use super::inquiry::{Asked, Inquiry};
 use super::judged::Judged;
+use super::loaded::Loaded;
 use super::{describe, json, threads, Failure, Output, ISOLATED, REACHED};
 use crate::query::Query;
 use crate::verdict::Verdict;
 
-pub(super) fn verdict(trace: &Trace, out: Output) -> Result<u8, Failure> {
-    let loaded = trace.file.load_named()?;
-    let inquiry = Inquiry::of("verdict", &loaded, Asked::Target(trace.query));
-    let judged = threads::call(|| Judged::of(&loaded, &trace.query))?
+pub(super) fn verdict<const N: usize>(
+    loaded: &Loaded<N>,
+    trace: &Trace,
+    out: Output,
+) -> Result<u8, Failure> {
+    let query = loaded.query(&trace.query)?;
+    let inquiry = Inquiry::of("verdict", loaded, Asked::Target(query));
+    let judged = threads::call(|| Judged::of(loaded, &query))?
         .map_err(|refusal| inquiry.refused(refusal))?;
     if trace.json {
         let mut members = inquiry.in_json();
         members.extend(judged.in_json());
         json::write(out, members)?;
     } else {
-        out.write_all(in_words(&inquiry, &trace.query, &judged).as_bytes())?;
+        out.write_all(in_words(&inquiry, &query, &judged).as_bytes())?;
         inquiry.in_words(out)?;
     }
     Ok(match judged.is_reached() {
@@ -26,7 +32,7 @@ pub(super) fn verdict(trace: &Trace, out: Output) -> Result<u8, Failure> {
     })
 }
 
-fn in_words(inquiry: &Inquiry, query: &Query, judged: &Judged) -> String {
+fn in_words<const N: usize>(inquiry: &Inquiry<N>, query: &Query<N>, judged: &Judged<N>) -> String {
     let loaded = inquiry.loaded;
     let target = loaded.port(query.port);
     match &judged.verdict {
@@ -39,8 +45,9 @@ fn in_words(inquiry: &Inquiry, query: &Query, judged: &Judged) -> String {
                 false => String::new(),
             };
             format!(
-                "isolated{only}: no foreign IPv4 packet gets out at port {target} \
-                 within {hops} ({units})\n{further}"
+                "isolated{only}: no foreign {} gets out at port {target} \
+                 within {hops} ({units})\n{further}",
+                covered::<N>().packet
             )
         }
         Verdict::Reached {
@@ -70,7 +77,7 @@ fn in_words(inquiry: &Inquiry, query: &Query, judged: &Judged) -> String {
 }
 
 /// What to send to see it, where the packet itself can't be sent.
-fn to_send(judged: &Judged) -> String {
+fn to_send<const N: usize>(judged: &Judged<N>) -> String {
     if judged.misfits.is_empty() {
         return String::new();
     }
@@ -94,7 +101,7 @@ fn to_send(judged: &Judged) -> String {
     format!("\nno host sends this packet as it is\n{why}{instead}")
 }
 
-fn why_foreign(inquiry: &Inquiry, port: u16, target: u32) -> String {
+fn why_foreign<const N: usize>(inquiry: &Inquiry<N>, port: u16, target: u32) -> String {
     let fabric = &inquiry.loaded.fabric;
     let target = u16::try_from(target)
         .ok()

@@ -11,6 +11,7 @@ use crate::finds::Find;
 use crate::header::{Header, HeaderSet};
 use crate::path::Path;
 use crate::record::Entry;
+use crate::version::Version;
 use reference::random::{cases, Rng};
 
 /// So many entries of one priority at an in-port; a way takes one of them.
@@ -83,7 +84,7 @@ fn equals_are_those_of_single_headers() {
             let told = equals.along(&Find {
                 port: 10,
                 hops: way.len() as u32,
-                entries: Path::new(way.iter().map(|&number| number.into())).unwrap(),
+                entries: Path::new(Version::V1, way.iter().map(|&number| number.into())).unwrap(),
                 set,
             });
             assert_eq!(told.len(), way.len());

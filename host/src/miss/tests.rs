@@ -11,6 +11,7 @@ use crate::finds::Find;
 use crate::header::{Header, HeaderSet};
 use crate::path::Path;
 use crate::record::{Edge, Entry, Link};
+use crate::version::Version;
 use reference::random::{cases, Rng};
 
 /// A row of switches, each with one entry, of which the last leads to an in-port
@@ -59,7 +60,7 @@ fn find(hops: u16, set: HeaderSet) -> Find {
     Find {
         port: in_port(0),
         hops: hops.into(),
-        entries: Path::new((0..hops).map(u32::from)).unwrap(),
+        entries: Path::new(Version::V1, (0..hops).map(u32::from)).unwrap(),
         set,
     }
 }

@@ -7,7 +7,7 @@ use super::Wrong;
 pub const MOST_LINES: usize = 65_536;
 /// The most bytes of a line.
 pub const MOST_LINE_BYTES: usize = 4096;
-/// The most bytes of a word; the longest set that anybody needs has 157.
+/// The most bytes of a word; the longest set that anybody needs has 287.
 pub const MOST_WORD_BYTES: usize = 512;
 
 /// What some editors put before a text.

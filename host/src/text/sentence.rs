@@ -5,7 +5,8 @@ use super::sets::parse_set;
 use super::token::Token;
 use super::Wrong;
 use crate::header::HeaderSet;
-use crate::limits::MOST_PORT;
+use crate::limits::{MOST_PORT, MOST_WORDS};
+use crate::version::Version;
 
 pub(super) struct Sentence<'t> {
     words: std::vec::IntoIter<Token<'t>>,
@@ -42,8 +43,9 @@ impl<'t> Sentence<'t> {
         self.want(&format!("a {what}"))?.number(what, most)
     }
 
-    pub(super) fn set(&mut self) -> Result<HeaderSet, Wrong> {
-        parse_set(self.want("a header set, or 'any',")?)
+    /// A set of the fields that this version has, in the words of any.
+    pub(super) fn set(&mut self, version: Version) -> Result<HeaderSet<MOST_WORDS>, Wrong> {
+        parse_set(self.want("a header set, or 'any',")?, version)
     }
 
     pub(super) fn end(&mut self) -> Result<(), Wrong> {

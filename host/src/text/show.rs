@@ -8,17 +8,19 @@ use crate::header::HeaderSet;
 use crate::names::Names;
 use crate::openflow::OpenFlow;
 use crate::record::Entry;
+use crate::version::Version;
 
-use super::openflow::OPENFLOW;
+use super::choices::{OPENFLOW, VERSION};
 
 /// The same as [`show`], and a line for each name.
-pub fn show_named(fabric: &Fabric, names: &Names) -> String {
+pub fn show_named<const N: usize>(fabric: &Fabric<N>, names: &Names) -> String {
     format!("{}{names}", show(fabric))
 }
 
-/// A line for each edge, link and entry, and before them one for an OpenFlow that
-/// isn't 1.0; packing it gives the fabric's file.
-pub fn show(fabric: &Fabric) -> String {
+/// A line for each edge, link and entry, and before them one for a version that
+/// isn't 1 and one for an OpenFlow that isn't 1.0; packing it gives the fabric's
+/// file.
+pub fn show<const N: usize>(fabric: &Fabric<N>) -> String {
     let (edges, links, entries) = (&fabric.edges, &fabric.links, &fabric.entries);
     let mut text = format!(
         "# {}, {}, {}\n",
@@ -26,6 +28,10 @@ pub fn show(fabric: &Fabric) -> String {
         count(links.len(), "link", "links"),
         count(entries.len(), "entry", "entries"),
     );
+    let version = Version::of::<N>();
+    if version != Version::default() {
+        let _ = writeln!(text, "{VERSION} {}", version.name());
+    }
     if fabric.openflow != OpenFlow::default() {
         let _ = writeln!(text, "{OPENFLOW} {}", fabric.openflow.name());
     }
@@ -42,7 +48,7 @@ pub fn show(fabric: &Fabric) -> String {
     text
 }
 
-fn entry_line(entry: &Entry) -> String {
+fn entry_line<const N: usize>(entry: &Entry<N>) -> String {
     let out = match entry.out_port {
         0 => "drop".into(),
         port => port.to_string(),
@@ -59,7 +65,7 @@ fn entry_line(entry: &Entry) -> String {
 
 /// What an entry does to a header, as its line says it: `swap set tp_dst=80`.
 /// None if it leaves every header as it is.
-pub(crate) fn action(entry: &Entry) -> Option<String> {
+pub(crate) fn action<const N: usize>(entry: &Entry<N>) -> Option<String> {
     let set = match entry.rewrite == HeaderSet::ALL_WILD {
         true => None,
         false => Some(format!("set {}", entry.rewrite)),

@@ -1,8 +1,9 @@
 /* A host in C. It makes one call, on a thread with just the stack that the
  * header asks for, and prints the code and then the bytes of the area.
  *
- *     caller CALL FILE LENT PORT LIMIT BUDGET CARE CARE CARE CARE VALUE VALUE VALUE VALUE
+ *     caller CALL FILE LENT PORT LIMIT BUDGET CARE.. VALUE..
  *
+ * A CALL of version 2 ends in _v2, and takes eight words of care and of value.
  * Without a CALL it prints what the header and the archive say of themselves.
  * A FILE of no bytes and an area of none are handed over as NULL. */
 #include <mwishovala.h>
@@ -11,26 +12,51 @@
 #include <stdlib.h>
 #include <string.h>
 
-enum { MOST_FILE = 100000, NUMBERS = 11 };
+enum { MOST_FILE = 100000, NUMBERS = 11, NUMBERS_V2 = 19 };
 
-typedef uint64_t call(const uint8_t *, size_t, uint8_t *, size_t, uint32_t, uint32_t, uint32_t,
-                      uint32_t, uint32_t, uint32_t, uint32_t, uint32_t, uint32_t, uint32_t, uint32_t);
+typedef uint64_t v1_call(const uint8_t *, size_t, uint8_t *, size_t, uint32_t, uint32_t, uint32_t,
+                         uint32_t, uint32_t, uint32_t, uint32_t,
+                         uint32_t, uint32_t, uint32_t, uint32_t);
+typedef uint64_t v2_call(const uint8_t *, size_t, uint8_t *, size_t, uint32_t, uint32_t, uint32_t,
+                         uint32_t, uint32_t, uint32_t, uint32_t,
+                         uint32_t, uint32_t, uint32_t, uint32_t,
+                         uint32_t, uint32_t, uint32_t, uint32_t,
+                         uint32_t, uint32_t, uint32_t, uint32_t);
+
+/* A call of one version. */
+struct call {
+    const char *name;
+    v1_call *v1;
+    v2_call *v2;
+};
+
+static const struct call calls[] = {
+    {"verdict", fabric_verdict, NULL},       {"list", fabric_list, NULL},
+    {"run", fabric_run, NULL},               {"verdict_v2", NULL, fabric_verdict_v2},
+    {"list_v2", NULL, fabric_list_v2},       {"run_v2", NULL, fabric_run_v2},
+};
 
 struct job {
-    call *call;
+    const struct call *call;
     const uint8_t *file;
     size_t file_len;
     uint8_t *area;
     size_t area_len;
-    uint32_t n[NUMBERS];
+    uint32_t n[NUMBERS_V2];
     uint64_t code;
 };
 
 static void *make(void *given) {
     struct job *job = given;
     const uint32_t *n = job->n;
-    job->code = job->call(job->file, job->file_len, job->area, job->area_len, n[0], n[1], n[2],
-                          n[3], n[4], n[5], n[6], n[7], n[8], n[9], n[10]);
+    if (job->call->v1) {
+        job->code = job->call->v1(job->file, job->file_len, job->area, job->area_len, n[0], n[1],
+                                  n[2], n[3], n[4], n[5], n[6], n[7], n[8], n[9], n[10]);
+    } else {
+        job->code = job->call->v2(job->file, job->file_len, job->area, job->area_len, n[0], n[1],
+                                  n[2], n[3], n[4], n[5], n[6], n[7], n[8], n[9], n[10], n[11],
+                                  n[12], n[13], n[14], n[15], n[16], n[17], n[18]);
+    }
     return NULL;
 }
 
@@ -39,10 +65,10 @@ static void fail(const char *what) {
     exit(1);
 }
 
-static call *call_named(const char *name) {
-    if (strcmp(name, "verdict") == 0) return fabric_verdict;
-    if (strcmp(name, "list") == 0) return fabric_list;
-    if (strcmp(name, "run") == 0) return fabric_run;
+static const struct call *call_named(const char *name) {
+    for (size_t i = 0; i < sizeof calls / sizeof *calls; i++) {
+        if (strcmp(name, calls[i].name) == 0) return &calls[i];
+    }
     fail("there is no such call");
     return NULL;
 }
@@ -74,16 +100,18 @@ static void on_its_thread(struct job *job) {
 int main(int count, char **given) {
     static uint8_t file[MOST_FILE];
     if (count == 1) {
-        printf("%d %d\n%s\n", FABRIC_ANSWER_BYTES, FABRIC_STACK_BYTES, mwishovala_version);
+        printf("%d %d %d\n%s\n", FABRIC_ANSWER_BYTES, FABRIC_ANSWER_BYTES_V2, FABRIC_STACK_BYTES,
+               mwishovala_version);
         return 0;
     }
-    if (count != 4 + NUMBERS) fail("other arguments are needed");
     struct job job = {.call = call_named(given[1])};
+    int numbers = job.call->v1 ? NUMBERS : NUMBERS_V2;
+    if (count != 4 + numbers) fail("other arguments are needed");
     job.file_len = read_file(given[2], file);
     job.file = job.file_len ? file : NULL;
     job.area_len = strtoul(given[3], NULL, 10);
     job.area = lend(job.area_len);
-    for (int i = 0; i < NUMBERS; i++) job.n[i] = (uint32_t)strtoul(given[4 + i], NULL, 10);
+    for (int i = 0; i < numbers; i++) job.n[i] = (uint32_t)strtoul(given[4 + i], NULL, 10);
     on_its_thread(&job);
     printf("%u at %llu\n", FABRIC_NUMBER(job.code), (unsigned long long)FABRIC_PLACE(job.code));
     for (size_t i = 0; i < job.area_len; i++) printf("%02x", job.area[i]);

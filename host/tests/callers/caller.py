@@ -1,8 +1,9 @@
 """A host in Python. It makes one call of a shared object that was made of the
 archive, and prints the code and the bytes of the area.
 
-    caller.py LIBRARY CALL FILE LENT PORT LIMIT BUDGET CARE CARE CARE CARE VALUE VALUE VALUE VALUE
+    caller.py LIBRARY CALL FILE LENT PORT LIMIT BUDGET CARE.. VALUE..
 
+A CALL of version 2 ends in _v2, and takes eight words of care and of value.
 Without a CALL it prints what the library says of itself. A FILE of no bytes and
 an area of none are handed over as NULL.
 """
@@ -11,12 +12,14 @@ import ctypes
 import sys
 
 NUMBERS = 11
+NUMBERS_V2 = 19
 
 
 def call_named(library, name):
+    numbers = NUMBERS_V2 if name.endswith("_v2") else NUMBERS
     call = getattr(library, "fabric_" + name)
     slice_of_bytes = [ctypes.c_void_p, ctypes.c_size_t]
-    call.argtypes = slice_of_bytes * 2 + [ctypes.c_uint32] * NUMBERS
+    call.argtypes = slice_of_bytes * 2 + [ctypes.c_uint32] * numbers
     call.restype = ctypes.c_uint64
     return call
 

@@ -57,7 +57,7 @@ pub fn budgets_around_the_count(
 }
 
 /// The product's code for the deepest descent, 16 hops of 63 beaters, on a
-/// thread with half a mebibyte of stack. All entries copy, which adds no units:
+/// thread with the least stack that is asked for. All entries copy, which adds no units:
 /// both addresses are rewritten.
 pub fn with_little_stack(call: Call, room: usize) -> u64 {
     let mut ring = deep_ring();

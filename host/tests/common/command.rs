@@ -69,7 +69,7 @@ fn finished(command: &mut Command, input: &[u8]) -> Ran {
 }
 
 /// What it can be asked to do.
-pub const COMMANDS: [&str; 11] = [
+pub const COMMANDS: [&str; 12] = [
     "verdict",
     "gate",
     "list",
@@ -77,6 +77,7 @@ pub const COMMANDS: [&str; 11] = [
     "audit",
     "show",
     "pack",
+    "widen",
     "dot",
     "help",
     "man",

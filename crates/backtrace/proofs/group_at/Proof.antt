@@ -1,11 +1,11 @@
 -- `group_at` meets its contract: the table has the number of the edge at an edge port. Assumes nothing.
 use mathlib.Core.Path.{_≡_, sym, ap, _∙_}
-use Prim.Native.Nat.{_-_}
+use Prim.Native.Nat.{_-_, _*_}
 use native.Mathlib.Omega.{arith}
 use borrow.Author.Needs.{needs}
 use denote.Ref.{now}
 use lib.ListN.{length, getD}
-use Rattle.records.specs.Records.{edgeGroup, edgeBytes}
+use Rattle.records.specs.Records.{widthIn, edgeWords, edgeGroup, edgeBytes}
 use Rattle.file.proofs.Accepted.{few-edges, edge-of}
 use Rattle.model.proofs.Lookups.{EdgeFound, edge-found}
 use Rattle.backtrace.proofs.group_at.Statement.{statement}
@@ -40,8 +40,10 @@ is-edge s = omega (arith, there s .numbered)
 group-requires : tie.Need-group-requires
 group-requires c κs =
     let s = c .before .before .before in
+    let long : length (now (c .edge .result)) ≡ 4 * edgeWords (widthIn (now (s .args .file))) =
     ap length (c .edge .ensures ∙ ap (edgeBytes (now (s .args .file))) (is-edge s))
-    ∙ edge-of (now (s .args .file)) (s .args .shape) (s .pre .0) (there s .edge) (there s .below) .long
+    ∙ edge-of (now (s .args .file)) (s .args .shape) (s .pre .0) (there s .edge) (there s .below) .long in
+    omega (arith, long)
 
 returns : tie.Need-returns
 returns c =

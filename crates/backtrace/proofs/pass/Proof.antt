@@ -2,7 +2,9 @@
 use borrow.Author.Needs.{needs}
 use denote.Ref.{now}
 use native.Mathlib.Omega.{arith}
-use Rattle.headers.specs.Forms.{setOf}
+use Rattle.records.proofs.Widths.{width-said}
+use Rattle.wide.specs.Forms.{wideOf}
+use Rattle.file.proofs.Accepted.{words-said}
 use Rattle.model.proofs.Lookups.{EdgeFound, edge-found}
 use Rattle.backtrace.proofs.Passing.{tracing, passed}
 use Rattle.backtrace.proofs.pass.Statement.{statement}
@@ -20,28 +22,36 @@ group-at-requires c κs = search needs
 entries-at-requires : tie.Need-entries-at-requires
 entries-at-requires c κs = search needs
 
+cast-t18 : tie.Need-cast-t18
+cast-t18 c =
+    let s = c .before .before .before .before .before in
+    omega (arith, width-said _ (words-said _ _ (s .pre .0)) .high)
+
 stop-requires : tie.Need-stop-requires
 stop-requires c κs =
-    let s = c .before .before .before .before .before .before .before .before in (
-      tracing (now (s .args .file)) (s .args .shape) (s .pre .0) (s .args .budget) (s .args .mode) (s .args .limit) (s .args .target) _ _ (s .pre .1 .1 .1 .1 .0 .0) (s .pre .1 .1 .1 .1 .0 .1)
-          (now (s .args .index)) (now (s .args .area)) (s .pre .1 .1 .0) (c .before .before .before .before .before .group-at .ensures) (c .before .before .before .before .entries-at .ensures) (s .pre .1 .1 .1 .1 .1),
+    let s = c .before .before .before .before .before .before .before .before .before in (
+      tracing (now (s .args .file)) (s .args .shape) (s .pre .0) (s .args .budget) (s .args .mode) (s .args .limit) (s .args .target) _ _ _
+          (s .pre .1 .1 .1 .1 .0 .0) (s .pre .1 .1 .1 .1 .0 .1) (now (s .args .index)) (now (s .args .area)) (s .pre .1 .1 .0)
+          (c .before .before .before .before .before .before .group-at .ensures)
+          (c .before .before .before .before .before .entries-at .ensures) (words-said _ _ (s .pre .0)) (s .pre .1 .1 .1 .1 .1),
       record { edge = λ l. absurd (omega (arith, there s .high)) },
     )
 
-array-read-t26 : tie.Need-array-read-t26
-array-read-t26 c = search needs
+array-read-t27 : tie.Need-array-read-t27
+array-read-t27 c = search needs
 
-array-read-t29 : tie.Need-array-read-t29
-array-read-t29 c = search needs
+array-read-t30 : tie.Need-array-read-t30
+array-read-t30 c = search needs
 
 same-length : tie.Need-same-length
 same-length c = search needs
 
 returns : tie.Need-returns
 returns c =
-    let s = c .before .before .before .before .before .before .before .before .before .before .before in
-    passed (now (s .args .file)) (s .args .shape) (s .pre .0) (s .args .budget) (s .args .mode) (s .args .limit) (s .args .target) _ _ (s .pre .1 .1 .1 .1 .0 .0) (s .pre .1 .1 .1 .1 .0 .1)
-    (setOf (s .args .asked)) (now (s .args .area)) _ _ _ (there s .low) (there s .high) (c .before .before .stop .ensures .0)
+    let s = c .before .before .before .before .before .before .before .before .before .before .before .before in
+    passed (now (s .args .file)) (s .args .shape) (s .pre .0) (s .args .budget) (s .args .mode) (s .args .limit) (s .args .target) _ _ _
+    (s .pre .1 .1 .1 .1 .0 .0) (s .pre .1 .1 .1 .1 .0 .1)
+    (wideOf (s .args .asked)) (now (s .args .area)) _ _ _ (there s .low) (there s .high) (c .before .before .stop .ensures .0)
 
 pub pass-spec : {M : Type 1} → statement M
 pass-spec =
@@ -50,8 +60,9 @@ pass-spec =
     sub-t15
     group-at-requires
     entries-at-requires
+    cast-t18
     stop-requires
-    array-read-t26
-    array-read-t29
+    array-read-t27
+    array-read-t30
     same-length
     returns)

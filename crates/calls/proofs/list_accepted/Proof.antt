@@ -7,18 +7,26 @@ use borrow.Author.Needs.{needs}
 use denote.Ref.{now}
 use lib.ListN.{length, replicate, length-replicate}
 use native.Mathlib.Omega.{arith}
-use Rattle.headers.specs.Forms.{setOf}
+use Rattle.headers.specs.Sets.{WellFormed}
 use Rattle.answer.specs.Answer.{writtenAt}
-use Rattle.questions.specs.Questions.{firstNo}
-use Rattle.model.specs.Model.{fabricIn}
+use Rattle.records.specs.Records.{widthIn}
+use Rattle.wide.specs.Forms.{wideOf, narrowed}
+use Rattle.wide.proofs.Halves.{Fours}
+use Rattle.wide.proofs.Arrays.{set-fours}
+use Rattle.questions.specs.Questions.{clean, firstNo}
+use Rattle.file.specs.Accepted.{Accepted}
+use Rattle.forwarding.specs.Trace.{finds}
+use Rattle.model.specs.Model.{fabricIn, wideIn}
+use Rattle.events.specs.Play.{Played}
 use Rattle.events.proofs.ListPlayed.{ListedAll}
 use Rattle.backtrace.specs.Pass.{begin, playedThen}
 use Rattle.queries.specs.Queries.{listTarget, traceQuestions}
 use Rattle.calls.specs.Questions.{Query, query}
-use Rattle.calls.specs.List.{listAsked, wordsAsked}
+use Rattle.calls.specs.List.{listAsked, wordsAsked, listPassOf}
 use Rattle.calls.proofs.Asking.{trace-yeses}
 use Rattle.calls.proofs.Copying.{words-copied}
-use Rattle.calls.proofs.Listing.{Sized, withinBudget, few-words, all-listed, through-within, else-over}
+use Rattle.calls.proofs.OwnWidth.{questions-own, own-formed, listed-own}
+use Rattle.calls.proofs.Listing.{withinBudget, few-words, all-listed, through-within, else-over}
 use Rattle.calls.proofs.Listing.{first-answered, over-answered, no-room-answered, words-answered}
 use Rattle.calls.proofs.list_accepted.Statement.{statement}
 use Rattle.calls.proofs.list_accepted.Tie as tie
@@ -28,33 +36,68 @@ f : tie.Start → List ℕ
 f s = now (s .args .file)
 
 q : tie.Start → Query
-q s = query (s .args .target) (s .args .limit) (s .args .budget) (setOf (s .args .asked))
+q s = query (s .args .target) (s .args .limit) (s .args .budget) (narrowed (s .args .shape .words) (wideOf (s .args .asked)))
 
 a : tie.Start → List ℕ
 a s = now (s .args .area)
 
 -- ---- the moments of the call
 
+module _ (s : tie.Start) where
+  is-accepted : Accepted (f s) (s .args .shape)
+  unfolding f
+  is-accepted = s .pre .0
+
+  fours : Fours (s .args .asked)
+  fours = set-fours (s .args .asked) (s .good .1 .1 .1 .1 .1 .1 .1 .0)
+
+-- the first questions were asked
+module _ (c : tie.After-list-no) where
+  abbrev asker : tie.Start
+  asker = c .before .before .before
+
+  asked-no : c .list-no .result
+      ≡ firstNo (traceQuestions (fabricIn (f asker) .words) (listTarget (fabricIn (f asker)) (q asker .port)) (q asker .limit)
+      (q asker .asked))
+  unfolding f q
+  asked-no =
+      c .list-no .ensures
+      ∙ questions-own (now (asker .args .file)) (asker .args .shape) (asker .pre .0) (asker .args .asked) (asker .pre .1 .1) (fours asker)
+      (listTarget (fabricIn (now (asker .args .file))) (asker .args .target)) (asker .args .limit)
+
 -- with no no before the trace
 module _ (c : tie.Else1) where
   abbrev start : tie.Start
   start = c .before .before .before .before
 
-  none : firstNo (traceQuestions (listTarget (fabricIn (f start)) (q start .port)) (q start .limit) (q start .asked)) ≡ 0
-  unfolding f q
-  none = sym (c .before .list-no .ensures) ∙ c .if1 .left
+  none : firstNo (traceQuestions (fabricIn (f start) .words) (listTarget (fabricIn (f start)) (q start .port)) (q start .limit)
+      (q start .asked)) ≡ 0
+  none = sym (asked-no (c .before)) ∙ c .if1 .left
 
-  -- the target is right, and the limit 1 to 16
+  -- the target is right, the limit 1 to 16, and what is asked clean
   yeses : (listTarget (fabricIn (f start)) (q start .port) ≡ true) × ((1 ≤ q start .limit) × (q start .limit ≤ 16))
-  yeses = trace-yeses (listTarget (fabricIn (f start)) (q start .port)) (q start .limit) (q start .asked) none
+      × (clean (fabricIn (f start) .words) (q start .asked) ≡ true)
+  yeses = trace-yeses (fabricIn (f start) .words) (listTarget (fabricIn (f start)) (q start .port)) (q start .limit) (q start .asked) none
 
   low-budget : q start .budget < 2 ^ 32
   unfolding q
   low-budget = search needs
 
-  sized : Sized 4 (q start .asked)
-  unfolding q
-  sized = (search needs, search needs)
+  formed : WellFormed (fabricIn (f start) .words) (q start .asked)
+  unfolding f q
+  formed = own-formed (now (start .args .file)) (start .args .shape) (start .pre .0) (start .args .asked) (start .pre .1 .1) (fours start)
+      (yeses .2)
+
+  -- a pass over what is asked is one over the file's own set
+  own-pass : (area : List ℕ) (p : Played)
+      → p ≡ listPassOf (widthIn (now (start .args .file))) (wideIn (now (start .args .file)))
+      (query (start .args .target) (start .args .limit) (start .args .budget) (wideOf (start .args .asked))) area
+      → p ≡ listPassOf (fabricIn (f start) .words) (fabricIn (f start)) (q start) area
+  unfolding f q
+  own-pass area p e =
+      e
+      ∙ listed-own (now (start .args .file)) (start .args .shape) (start .pre .0) (start .args .asked) (start .pre .1 .1) (fours start)
+      formed (start .args .target) (start .args .limit) (start .args .budget) area
 
 -- the bytes for the first pass
 abbrev own₀ : List ℕ
@@ -75,27 +118,28 @@ module _ (p : tie.After-list-pass) where
   abbrev ws : List ℕ
   ws = wordsAsked (fabricIn (f s)) (q s)
 
+  first-pass : playedThen (p .list-pass .result) own ≡ listPassOf (fabricIn (f s) .words) (fabricIn (f s)) (q s) own₀
+  first-pass = own-pass before-pass own₀ (playedThen (p .list-pass .result) own) (p .list-pass .ensures)
+
   over : (p .list-pass .result .status ≡ 0 → ⊥) → withinBudget (f s) (q s) ≡ false
-  unfolding f q
   over =
-      else-over (f s) (q s) (yeses before-pass .1 .1) (low-budget before-pass) (sized before-pass) own₀ (p .list-pass .result) own
-      (p .list-pass .ensures)
+      else-over (f s) (s .args .shape) (is-accepted s) (q s) (yeses before-pass .1 .1) (low-budget before-pass) (formed before-pass) own₀
+      (p .list-pass .result) own first-pass
 
   module _ (through : p .list-pass .result .status ≡ 0) where
     within : withinBudget (f s) (q s) ≡ true
-    unfolding f q
     within =
-        through-within (f s) (q s) (yeses before-pass .1 .1) (low-budget before-pass) (sized before-pass) own₀ (p .list-pass .result) own
-        (p .list-pass .ensures) through
+        through-within (f s) (s .args .shape) (is-accepted s) (q s) (yeses before-pass .1 .1) (low-budget before-pass)
+        (formed before-pass) own₀ (p .list-pass .result) own first-pass through
 
-    few : length ws < 2 ^ 45
-    few = few-words (f s) (q s) (yeses before-pass .1 .1) (low-budget before-pass) (sized before-pass) within
+    few : length ws < 2 ^ 46
+    few = few-words (f s) (s .args .shape) (is-accepted s) (q s) (yeses before-pass .1 .1) (low-budget before-pass)
+        (formed before-pass) within
 
-    listed : ListedAll (begin own₀) (listAsked (fabricIn (f s)) (q s)) (playedThen (p .list-pass .result) own)
-    unfolding f q
+    listed : ListedAll (begin own₀) (finds (listAsked (fabricIn (f s)) (q s))) (playedThen (p .list-pass .result) own)
     listed =
-        all-listed (f s) (q s) (yeses before-pass .1 .1) (low-budget before-pass) (sized before-pass) own₀ (p .list-pass .result) own
-        (p .list-pass .ensures) within
+        all-listed (f s) (s .args .shape) (is-accepted s) (q s) (yeses before-pass .1 .1) (low-budget before-pass)
+        (formed before-pass) own₀ (p .list-pass .result) own first-pass within
 
     words-are : p .list-pass .result .words ≡ length ws
     words-are = omega (arith, listed .counted)
@@ -115,7 +159,7 @@ returns : tie.Need-returns
 unfolding f q a
 returns c =
     let s = c .before .before .before .before in
-    first-answered (f s) (q s) (a s) _ (c .before .list-no .ensures) (c .if1 .taken)
+    first-answered (f s) (q s) (a s) _ (asked-no (c .before)) (c .if1 .taken)
 
 fill-requires : tie.Need-fill-requires
 fill-requires c κs = search needs
@@ -129,7 +173,7 @@ list-pass-requires c κs =
     let asked = c .before .before .before .before in
     let pre = start asked .pre in
     let index = c .before .before .fill .ensures in
-    (pre .0, (pre .1, (index, yeses asked)))
+    (pre .0, (pre .1 .0, (index, (yeses asked .0, yeses asked .1))))
 
 returns-2 : tie.Need-returns-2
 unfolding f q a
@@ -176,7 +220,7 @@ list-pass-requires-2 c κs =
     let asked = before-pass p in
     let pre = start asked .pre in
     let index = p .before .before .before .fill .ensures in
-    (pre .0, (pre .1, (index, yeses asked)))
+    (pre .0, (pre .1 .0, (index, (yeses asked .0, yeses asked .1))))
 
 mul-result-2 : tie.Need-mul-result-2
 mul-result-2 c =
@@ -197,9 +241,11 @@ returns-5 c =
     let through = passed .if2 .left in
     let are = words-are p through in
     words-answered (f (s p)) (q (s p)) (a (s p)) (none (before-pass p)) (within p through) are (fits .if3 .left)
-    (all-listed (f (s p)) (q (s p)) (yeses (before-pass p) .1 .1) (low-budget (before-pass p)) (sized (before-pass p)) (a (s p))
-    (second .list-pass2 .result)
-    (second .list-pass2 .last .1 .0) (second .list-pass2 .ensures) (within p through) .written (omega (arith, fits .if3 .left)))
+    (all-listed (f (s p)) (s p .args .shape) (is-accepted (s p)) (q (s p)) (yeses (before-pass p) .1 .1) (low-budget (before-pass p))
+    (formed (before-pass p)) (a (s p)) (second .list-pass2 .result) (second .list-pass2 .last .1 .0)
+    (own-pass (before-pass p) (a (s p)) (playedThen (second .list-pass2 .result) (second .list-pass2 .last .1 .0))
+    (second .list-pass2 .ensures))
+    (within p through) .written (omega (arith, fits .if3 .left)))
 
 pub list-accepted-spec : {M : Type 1} → statement M
 list-accepted-spec =

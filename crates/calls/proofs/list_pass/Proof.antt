@@ -4,9 +4,10 @@ use mathlib.Core.Path.{sym, ap, _∙_}
 use Prim.Native.Nat.{ℕ}
 use borrow.Author.Needs.{needs}
 use denote.Ref.{now}
-use Rattle.headers.specs.Forms.{setOf}
+use Rattle.records.specs.Records.{widthIn}
+use Rattle.wide.specs.Forms.{wideOf}
 use Rattle.forwarding.specs.Trace.{Event, listTrace}
-use Rattle.model.specs.Model.{fabricIn}
+use Rattle.model.specs.Model.{fabricIn, wideIn}
 use Rattle.events.specs.Play.{play, listed}
 use Rattle.backtrace.specs.Pass.{begin}
 use Rattle.queries.proofs.Targets.{edge-asked, edge-traced}
@@ -23,8 +24,9 @@ returns : tie.Need-returns
 returns c =
     let zero = c .before .before .before .before in
     let a = zero .before .before .before .args in
+    let f : List ℕ = now (a .file) in
     c .before .before .lost-pass .ensures
-    ∙ ap (λ (t : ℕ). play (a .budget) listed (listTrace (fabricIn (now (a .file))) (a .limit) t (setOf (a .asked)))
+    ∙ ap (λ (t : ℕ). play (a .budget) (listed (widthIn f)) (listTrace (wideIn f) (a .limit) t (wideOf (a .asked)))
     (begin (now (a .area)))) (sym (zero .if1 .taken))
 
 pass-requires : tie.Need-pass-requires
@@ -52,9 +54,10 @@ returns-2 : tie.Need-returns-2
 returns-2 c =
     let else = c .before .before .before .before in
     let a = else .before .before .before .args in
+    let f : List ℕ = now (a .file) in
     c .before .before .pass .ensures
-    ∙ ap (λ (es : List Event). play (a .budget) listed es (begin (now (a .area))))
-    (edge-traced (fabricIn (now (a .file))) (a .limit) (a .target) (setOf (a .asked)) (else .if1 .left))
+    ∙ ap (λ (es : List Event). play (a .budget) (listed (widthIn f)) es (begin (now (a .area))))
+    (edge-traced (wideIn f) (a .limit) (a .target) (wideOf (a .asked)) (else .if1 .left))
 
 pub list-pass-spec : {M : Type 1} → statement M
 list-pass-spec = tie.close (tie.spec lost-pass-requires same-length returns pass-requires same-length-2 returns-2)

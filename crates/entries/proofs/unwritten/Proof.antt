@@ -1,22 +1,23 @@
 -- `unwritten` meets its contract: the rewrite is the entry's own.
 use mathlib.Core.Path.{ap, _∙_}
-use borrow.Author.Needs.{needs}
+use Prim.Native.Nat.{ℕ}
 use Rattle.headers.specs.Sets.{undone}
-use Rattle.headers.specs.Actions.{Act}
-use Rattle.headers.specs.Forms.{setOf, maybeOf}
+use Rattle.wide.specs.Forms.{wideWords, wideOf, rewriteStored}
+use Rattle.wide.proofs.Entries.{rewrite-stored}
 use Rattle.entries.proofs.unwritten.Statement.{statement}
 use Rattle.entries.proofs.unwritten.Tie as tie
 
-action-requires : tie.Need-action-requires
-action-requires c κs = search needs
+rewrite-at-requires : tie.Need-rewrite-at-requires
+rewrite-at-requires c κs = c .before .pre .width
 
 unwritten-requires : tie.Need-unwritten-requires
-unwritten-requires c κs = search needs
+unwritten-requires c κs = rw (c .rewrite-at .ensures) (rewrite-stored (c .before .before .pre))
 
 returns : tie.Need-returns
 returns c =
-    let t = setOf (c .before .before .before .args .t) in
-    c .unwritten .ensures ∙ ap (λ (a : Act). maybeOf (undone 4 (a .rewrite) t)) (c .before .action .ensures)
+    let args = c .before .before .before .args in
+    c .unwritten .ensures
+    ∙ ap (λ (k : ℕ). undone wideWords (rewriteStored (args .w) (args .x .now) k) (wideOf (args .t))) (c .before .rewrite-at .ensures)
 
 pub unwritten-spec : {M : Type 1} → statement M
-unwritten-spec = tie.close (tie.spec action-requires unwritten-requires returns)
+unwritten-spec = tie.close (tie.spec rewrite-at-requires unwritten-requires returns)

@@ -3,14 +3,20 @@ use mathlib.Core.Path.{_≡_}
 use borrow.Author.Needs.{needs}
 use denote.Ref.{now}
 use lib.ListN.{length}
-use Rattle.headers.specs.Forms.{setOf}
+use Rattle.wide.specs.Forms.{wideOf, narrowed}
+use Rattle.events.proofs.FindWords.{narrowed-long}
 use Rattle.events.proofs.FindPlayed.{listed-is}
 use Rattle.events.proofs.list_find.Statement.{statement}
 use Rattle.events.proofs.list_find.Tie as tie
 
--- care and value are arrays of four
-fours : (s : tie.Start) → (length (s .args .p .care) ≡ 4) × (length (s .args .p .value) ≡ 4)
-fours s = (search needs, search needs)
+-- care and value as the file has them
+longs : (s : tie.Start)
+    → (length (narrowed (s .args .w) (wideOf (s .args .p)) .care) ≡ s .args .w)
+    × (length (narrowed (s .args .w) (wideOf (s .args .p)) .value) ≡ s .args .w)
+longs s = (
+  narrowed-long (s .pre .0) (s .args .p .low .care) (s .args .p .high .care) (search needs) (search needs),
+  narrowed-long (s .pre .0) (s .args .p .low .value) (s .args .p .high .value) (search needs) (search needs),
+)
 
 element-copy-out-put-fitting : tie.Need-element-copy-out-put-fitting
 element-copy-out-put-fitting c = search needs
@@ -29,8 +35,8 @@ returns c =
     let put = c .before .before .before .before in
     let s = put .before .before .before .before .before in
     let a = s .args in (
-      listed-is (s .pre .1 .0) (now (a .file)) (a .k) (setOf (a .p)) (fours s .0) (fours s .1) (now (a .counters)) (now (a .area))
-          (c .count-find .last .1 .0) (c .count-find .ensures .0) (c .count-find .ensures .1 .0) (put .put-fitting .ensures),
+      listed-is (s .pre .1 .1 .0) (now (a .file)) (a .k) (a .w) (wideOf (a .p)) (longs s .0) (longs s .1)
+          (now (a .counters)) (now (a .area)) (c .count-find .last .1 .1 .0) (c .count-find .ensures .0) (c .count-find .ensures .1 .0) (put .put-fitting .ensures),
       c .count-find .ensures .1 .1,
     )
 

@@ -2,6 +2,7 @@
 use mathlib.Core.Path.{ap, _∙_}
 use borrow.Author.Needs.{needs}
 use denote.Ref.{now}
+use native.Mathlib.Omega.{arith}
 use Rattle.records.specs.Records.{edgePort}
 use Rattle.file.proofs.Accepted.{edge-port-is}
 use Rattle.events.proofs.FindEdge.{edge-long}
@@ -12,7 +13,7 @@ edge-requires : tie.Need-edge-requires
 edge-requires c κs = search needs
 
 port-requires : tie.Need-port-requires
-port-requires c κs = rw (c .edge .ensures) (edge-long (c .before .before .pre))
+port-requires c κs = rw (c .edge .ensures) (omega (arith, edge-long (c .before .before .pre) .long))
 
 returns : tie.Need-returns
 returns c = c .port .ensures ∙ ap edgePort (c .before .edge .ensures) ∙ edge-port-is (now (c .before .before .before .args .file)) (c .before .before .before .args .k)

@@ -6,7 +6,9 @@ use borrow.Author.Needs.{needs}
 use denote.Ref.{now}
 use lib.ListN.{drop}
 use native.Mathlib.Omega.{arith}
+use Rattle.headers.specs.Sets.{Set}
 use Rattle.answer.specs.Answer.{writtenAt}
+use Rattle.wide.specs.Forms.{wideOf, narrowed}
 use Rattle.events.specs.Play.{findWords}
 use Rattle.events.proofs.FindWords.{written-both, entryWords, hops-are, entry-words-are}
 use Rattle.events.proofs.put_find.Statement.{statement}
@@ -57,12 +59,13 @@ returns c =
     let s = first .before .before .before in
     let a = s .args in
     let path : List ℕ = drop (a .d) (now (a .path)) in
-    let words : List ℕ = a .p .care ++ a .p .value in
-    let n = entry-words-are (s .pre .0) in
+    let p : Set = narrowed (a .w) (wideOf (a .p)) in
+    let words : List ℕ = p .care ++ p .value in
+    let n = entry-words-are (s .pre .1 .0) in
     written-both (a .at) ((6 * 2 ^ 28 + (16 - a .d) * 2 ^ 12 + a .port) ∷ []) (entryWords path ++ words) (now (a .area)) (first .put-word .ensures)
     (written-both (a .at + 1) (entryWords path) words (first .put-word .last .0) (entries .put-entries .ensures) (set .put-set .ensures) (omega arith) (omega arith))
     (omega arith) (omega arith)
-    ∙ ap (λ (n : ℕ). writtenAt (a .at) ((6 * 2 ^ 28 + n * 2 ^ 12 + a .port) ∷ (entryWords path ++ words)) (now (a .area))) (sym (hops-are (s .pre .0)))
+    ∙ ap (λ (n : ℕ). writtenAt (a .at) ((6 * 2 ^ 28 + n * 2 ^ 12 + a .port) ∷ (entryWords path ++ words)) (now (a .area))) (sym (hops-are (s .pre .1 .0)))
 
 pub put-find-spec : {M : Type 1} → statement M
 put-find-spec =

@@ -6,20 +6,28 @@ use borrow.Author.Tests.{le-leb, lt-leb}
 use denote.Ref.{now}
 use lib.ListN.{length}
 use native.Mathlib.Omega.{arith}
-use Rattle.headers.specs.Forms.{setOf}
+use Rattle.headers.specs.Sets.{Set}
+use Rattle.records.specs.Records.{setWords}
+use Rattle.wide.specs.Forms.{wideOf, narrowed}
 use Rattle.forwarding.specs.Trace.{Find}
 use Rattle.events.specs.Play.{findWords}
 use Rattle.events.specs.Asked.{findAt}
-use Rattle.events.proofs.FindWords.{find-words-are}
+use Rattle.events.proofs.FindWords.{narrowed-long, find-words-are}
 use Rattle.events.proofs.put_fitting.Statement.{statement}
 use Rattle.events.proofs.put_fitting.Tie as tie
 
 module _ (s : tie.Start) where
-  abbrev found : Find
-  found = findAt (now (s .args .file)) (s .args .k) (now (s .args .path)) (s .args .d) (setOf (s .args .p))
+  abbrev set : Set
+  set = narrowed (s .args .w) (wideOf (s .args .p))
 
-  long : length (findWords found) ≡ 25 - s .args .d
-  long = find-words-are (s .pre .1) (now (s .args .file)) (s .args .k) (setOf (s .args .p)) (search needs) (search needs)
+  abbrev found : Find
+  found = findAt (now (s .args .file)) (s .args .k) (now (s .args .path)) (s .args .d) set
+
+  long : length (findWords found) ≡ 17 - s .args .d + setWords (s .args .w)
+  long =
+      find-words-are (s .pre .1 .1) (now (s .args .file)) (s .args .k) (s .args .w) set
+      (narrowed-long (s .pre .0) (s .args .p .low .care) (s .args .p .high .care) (search needs) (search needs))
+      (narrowed-long (s .pre .0) (s .args .p .low .value) (s .args .p .high .value) (search needs) (search needs))
 
 words-of-requires : tie.Need-words-of-requires
 words-of-requires c κs = search needs
@@ -40,7 +48,7 @@ port-at-requires c κs = search needs
 put-find-requires : tie.Need-put-find-requires
 put-find-requires c κs =
     let s = c .before .before .before .before .before .before .before in
-    (s .pre .1, (search needs, omega arith))
+    (s .pre .0, (s .pre .1 .1, (search needs, omega arith)))
 
 same-length : tie.Need-same-length
 same-length c = search needs

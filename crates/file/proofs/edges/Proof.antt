@@ -1,4 +1,5 @@
 -- The loop has `EdgesSoFar` in hand; each way out is a law of proofs/Loops.antt. t is the place after the test of the kind.
+use Rattle.records.proofs.Widths.{width-said}
 use Rattle.file.proofs.Loops.{EdgesSoFar}
 use Prim.Native.Nat.{_-_}
 use Rattle.file.proofs.Loops as loops
@@ -8,13 +9,13 @@ use Rattle.file.proofs.edges.Statement.{statement}
 use Rattle.file.proofs.edges.Tie as tie
 
 abbrev Inv-loop : tie.InvT-loop
-Inv-loop file edge-of₀ words e₀ at₀ last₀ edge-of e at last = EdgesSoFar file e at last edge-of
+Inv-loop file hw edge-of₀ words e₀ at₀ last₀ edge-of e at last = EdgesSoFar file e at last edge-of
 
 abbrev μ-loop : tie.MeasureT-loop
-μ-loop file edge-of₀ words e₀ at₀ last₀ edge-of e at last = words - at
+μ-loop file hw edge-of₀ words e₀ at₀ last₀ edge-of e at last = words - at
 
 loop-holds : tie.Need-loop-holds Inv-loop μ-loop
-loop-holds c = loops.edges-start _ _ (c .before .pre .0 .low) (c .before .pre .1)
+loop-holds c = loops.edges-start _ _ (c .before .pre .1 .0 .low) (c .before .pre .1 .1)
 
 word-requires : tie.Need-word-requires Inv-loop μ-loop
 word-requires c κs = search needs
@@ -25,12 +26,16 @@ kind-of-requires c κs = search needs
 returns : tie.Need-returns Inv-loop μ-loop
 returns c =
     let s = c .before .before .before .before .loop .inv in
-    (loops.other _ _ _ _ _ _ _ _ (s .so-far) _ _ _ (c .before .before .word .ensures) (c .before .kind-of .ensures) (c .if1 .taken), s .edge-at)
+    let read = loops.other _ _ _ _ _ _ _ _ (s .so-far) _ _ _ (c .before .before .word .ensures) (c .before .kind-of .ensures)
+    (c .if1 .taken) in
+    (read, s .edge-at)
 
 edge-no-requires : tie.Need-edge-no-requires Inv-loop μ-loop
 edge-no-requires c κs =
     let s = c .before .before .before .before .loop .inv in
-    (loops.here _ _ _ _ _ _ _ _ (s .so-far) _ _ _ (omega arith) (c .before .before .word .ensures) (c .before .kind-of .ensures) (c .if1 .left), (s .so-far .place-is, s .last-is))
+    let here = loops.here _ _ _ _ _ _ _ _ (s .so-far) _ _ _ (omega arith) (c .before .before .word .ensures) (c .before .kind-of .ensures)
+    (c .if1 .left) in
+    (c .before .before .before .before .before .before .pre .0, (here, (s .so-far .place-is, s .last-is)))
 
 returns-2 : tie.Need-returns-2 Inv-loop μ-loop
 returns-2 c =
@@ -56,18 +61,26 @@ mul-edge-of c = search needs
 element-write-edge-of : tie.Need-element-write-edge-of Inv-loop μ-loop
 element-write-edge-of c = search needs
 
+edge-words-requires : tie.Need-edge-words-requires Inv-loop μ-loop
+edge-words-requires c κs = width-said _ (c .before .before .before .before .before .before .before .before .before .pre .0)
+
 add-at : tie.Need-add-at Inv-loop μ-loop
-add-at c = search needs
+add-at c =
+    let wide = width-said _ (c .before .before .before .before .before .before .before .before .before .before .pre .0) in
+    omega (arith, wide .high, c .edge-words .ensures)
 
 loop-less : tie.Need-loop-less Inv-loop μ-loop
-loop-less c = search needs
+loop-less c = omega (arith, c .edge-words .ensures)
 
 loop-again : tie.Need-loop-again Inv-loop μ-loop
 loop-again c =
-    let t = c .before .before .before in
+    let read = c .before in
+    let t = read .before .before .before in
     let s = t .before .before .before .before .loop .inv in
-    loops.edges-next _ _ _ _ _ s _ _ (loops.here _ _ _ _ _ _ _ _ (s .so-far) _ _ _ (omega arith) (t .before .before .word .ensures) (t .before .kind-of .ensures) (t .if1 .left))
-    (c .before .before .edge-no .ensures) (c .before .if2 .left) _ (c .port-of .ensures)
+    let here = loops.here _ _ _ _ _ _ _ _ (s .so-far) _ _ _ (omega arith) (t .before .before .word .ensures) (t .before .kind-of .ensures)
+    (t .if1 .left) in
+    loops.edges-next _ _ _ _ _ s _ _ here (read .before .before .edge-no .ensures) (read .before .if2 .left) _ _ _ (read .port-of .ensures)
+    (t .before .before .before .before .before .before .pre .0) (c .edge-words .ensures)
 
 returns-3 : tie.Need-returns-3 Inv-loop μ-loop
 returns-3 c =
@@ -92,6 +105,7 @@ edges-spec =
     cast-edge-of-2
     mul-edge-of
     element-write-edge-of
+    edge-words-requires
     add-at
     loop-less
     loop-again

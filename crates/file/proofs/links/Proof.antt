@@ -8,18 +8,20 @@ use Rattle.file.proofs.links.Statement.{statement}
 use Rattle.file.proofs.links.Tie as tie
 
 abbrev Inv-loop : tie.InvT-loop
-Inv-loop file edge-of starts₀ ends₀ e words l₀ at₀ last₀ starts ends l at last = LinksSoFar file e l at last starts ends
+Inv-loop file hw edge-of starts₀ ends₀ e words l₀ at₀ last₀ starts ends l at last = LinksSoFar file e l at last starts ends
 
 abbrev μ-loop : tie.MeasureT-loop
-μ-loop file edge-of starts₀ ends₀ e words l₀ at₀ last₀ starts ends l at last = words - at
+μ-loop file hw edge-of starts₀ ends₀ e words l₀ at₀ last₀ starts ends l at last = words - at
 
 place-requires : tie.Need-place-requires Inv-loop μ-loop
-place-requires c κs = search needs
+place-requires c κs =
+    let p = c .before .pre in
+    loops.place-fits _ _ _ _ _ (p .0) (p .1 .0) (p .1 .1 .0)
 
 loop-holds : tie.Need-loop-holds Inv-loop μ-loop
 loop-holds c =
     let p = c .before .before .pre in
-    loops.links-start _ _ _ _ _ (c .place .ensures) (p .1 .0) (p .1 .1 .1 .0) (p .1 .1 .1 .1)
+    loops.links-start _ _ _ _ _ _ (p .0) (c .place .ensures) (p .1 .1 .0) (p .1 .1 .1 .1 .0) (p .1 .1 .1 .1 .1)
 
 word-requires : tie.Need-word-requires Inv-loop μ-loop
 word-requires c κs = search needs
@@ -30,13 +32,17 @@ kind-of-requires c κs = search needs
 returns : tie.Need-returns Inv-loop μ-loop
 returns c =
     let s = c .before .before .before .before .loop .inv in
-    (loops.other _ _ _ _ _ _ _ _ (s .so-far) _ _ _ (c .before .before .word .ensures) (c .before .kind-of .ensures) (c .if1 .taken), (s .start-at, s .end-at))
+    let read = loops.other _ _ _ _ _ _ _ _ (s .so-far) _ _ _ (c .before .before .word .ensures) (c .before .kind-of .ensures)
+    (c .if1 .taken) in
+    (read, (s .start-at, s .end-at))
 
 link-no-requires : tie.Need-link-no-requires Inv-loop μ-loop
 link-no-requires c κs =
     let t = c .before in
     let s = t .before .before .before .before .loop .inv in
-    (loops.here _ _ _ _ _ _ _ _ (s .so-far) _ _ _ (omega arith) (t .before .before .word .ensures) (t .before .kind-of .ensures) (t .if1 .left), (s .last-is, (t .before .before .before .before .before .before .before .pre .1 .1 .0, s .end-at)))
+    let here = loops.here _ _ _ _ _ _ _ _ (s .so-far) _ _ _ (omega arith) (t .before .before .word .ensures) (t .before .kind-of .ensures)
+    (t .if1 .left) in
+    (here, (s .last-is, (t .before .before .before .before .before .before .before .pre .1 .1 .1 .0, s .end-at)))
 
 returns-2 : tie.Need-returns-2 Inv-loop μ-loop
 returns-2 c =
@@ -87,8 +93,10 @@ loop-again : tie.Need-loop-again Inv-loop μ-loop
 loop-again c =
     let t = c .before .before .before .before .before in
     let s = t .before .before .before .before .loop .inv in
-    loops.links-next _ _ _ _ _ _ _ s _ _ (loops.here _ _ _ _ _ _ _ _ (s .so-far) _ _ _ (omega arith) (t .before .before .word .ensures) (t .before .kind-of .ensures) (t .if1 .left))
-    (c .before .before .before .link-no .ensures) (c .before .before .if2 .left) _ _ (c .before .from-of .ensures) (c .port-of .ensures)
+    let here = loops.here _ _ _ _ _ _ _ _ (s .so-far) _ _ _ (omega arith) (t .before .before .word .ensures) (t .before .kind-of .ensures)
+    (t .if1 .left) in
+    loops.links-next _ _ _ _ _ _ _ s _ _ here (c .before .before .before .link-no .ensures) (c .before .before .if2 .left)
+    _ _ (c .before .from-of .ensures) (c .port-of .ensures)
 
 returns-3 : tie.Need-returns-3 Inv-loop μ-loop
 returns-3 c =

@@ -4,6 +4,7 @@ use Prim.Native.Nat.{_<_}
 use borrow.Author.Needs.{needs}
 use denote.Ref.{now}
 use native.Mathlib.Omega.{arith}
+use Rattle.records.specs.Records.{widthIn}
 use Rattle.file.proofs.Accepted.{few-entries}
 use Rattle.model.specs.Model.{fabricIn}
 use Rattle.model.proofs.EntryRead.{EntryRead, entry-read}
@@ -12,8 +13,8 @@ use Rattle.index.proofs.chain_entry.Statement.{statement}
 use Rattle.index.proofs.chain_entry.Tie as tie
 
 -- the bytes that were read are entry e's
-entry-e : (c : tie.After-entry)
-    → EntryRead (fabricIn (now (c .before .before .args .file))) (c .before .before .args .e) (now (c .entry .result))
+entry-e : (c : tie.After-entry) → let s = c .before .before in
+    EntryRead (widthIn (now (s .args .file))) (fabricIn (now (s .args .file))) (s .args .e) (now (c .entry .result))
 entry-e c = let s = c .before .before in entry-read _ _ (s .pre .0) _ (s .pre .1 .0) _ (c .entry .ensures)
 
 -- an accepted file has at most 512 entries
@@ -24,19 +25,19 @@ entry-requires : tie.Need-entry-requires
 entry-requires c κs = search needs
 
 out-port-requires : tie.Need-out-port-requires
-out-port-requires c κs = entry-e c .bytes .long
+out-port-requires c κs = omega (arith, entry-e c .bytes .long)
 
 cast-out : tie.Need-cast-out
 cast-out c = search needs
 
 in-port-requires : tie.Need-in-port-requires
-in-port-requires c κs = entry-e (c .before) .bytes .long
+in-port-requires c κs = omega (arith, entry-e (c .before) .bytes .long)
 
 cast-into : tie.Need-cast-into
 cast-into c = search needs
 
 priority-requires : tie.Need-priority-requires
-priority-requires c κs = entry-e (c .before .before) .bytes .long
+priority-requires c κs = omega (arith, entry-e (c .before .before) .bytes .long)
 
 add-push : tie.Need-add-push
 add-push c = search needs

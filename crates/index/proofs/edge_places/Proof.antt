@@ -28,7 +28,7 @@ edge-requires c κs =
 port-requires : tie.Need-port-requires Inv-loop μ-loop
 port-requires c κs =
     let s = c .before .before .before .before .before in
-    rw (c .edge .ensures) (edge-of _ _ (s .pre .0) (c .before .before .before .loop .k) (omega arith) .long)
+    rw (c .edge .ensures) (omega (arith, edge-of _ _ (s .pre .0) (c .before .before .before .loop .k) (omega arith) .long))
 
 add-index : tie.Need-add-index Inv-loop μ-loop
 add-index c = omega (arith, few-edges _ _ (c .before .before .before .before .before .before .pre .0))

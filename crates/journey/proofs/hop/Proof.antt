@@ -1,17 +1,21 @@
 -- `hop` meets its contract: each return is one of the fates of forwarding. Assumes nothing.
 use mathlib.Core.List.{List, [], _∷_}
-use mathlib.Core.Path.{_≡_, sym, ap₂, _∙_}
+use mathlib.Core.Path.{_≡_, sym, _∙_}
 use Prim.Native.Nat.{ℕ, _<_}
 use borrow.Author.Needs.{needs}
 use denote.Ref.{now}
 use native.Mathlib.Omega.{arith}
-use Rattle.headers.specs.Actions.{Act, acted}
-use Rattle.file.proofs.Accepted.{few-entries}
+use Rattle.records.specs.Records.{widthIn}
+use Rattle.records.proofs.Widths.{width-said}
+use Rattle.wide.specs.Forms.{wordsOf}
+use Rattle.wide.proofs.Entries.{rewrite-stored}
+use Rattle.file.proofs.Accepted.{words-said, few-entries}
 use Rattle.forwarding.specs.Fabric.{outPortOf, applied}
 use Rattle.forwarding.specs.Run.{takers}
-use Rattle.model.specs.Model.{fabricIn}
+use Rattle.model.specs.Model.{fabricIn, wideIn}
 use Rattle.model.specs.declared.Best.{Best}
-use Rattle.model.proofs.EntryRead.{EntryRead, entry-read, entries-are, words-are}
+use Rattle.model.proofs.EntryRead.{EntryRead, entry-read, entries-are, bytes-long}
+use Rattle.journey.proofs.Acted.{applied-stored}
 use Rattle.journey.proofs.Hops.{hopped-ended, hopped-missed, hopped-tied, hopped-dropped, hopped-left, hopped-on}
 use Rattle.journey.proofs.hop.Statement.{statement}
 use Rattle.journey.proofs.hop.Tie as tie
@@ -52,12 +56,12 @@ module _ (c : tie.Else3) where
   entry-below : taken < start .args .shape .entries
   entry-below = omega (arith, entries-are file (start .args .shape) (start .pre .0), one-below (c .before))
 
-  one-took : takers (fabricIn file) (start .args .j .port) (start .args .j .header) ≡ taken ∷ []
+  one-took : takers (wideIn file) (start .args .j .port) (wordsOf (start .args .j .header)) ≡ taken ∷ []
   one-took = c .before .before .before .taker .ensures .one-takes (one-below (c .before)) (c .if3 .left)
 
 -- its bytes, its out-port and the header that it makes were read
 module _ (c : tie.After-entry) where
-  entry-taken : let took = c .before in EntryRead (fabricIn (file took)) (taken took) (now (c .entry .result))
+  entry-taken : let took = c .before in EntryRead (widthIn (file took)) (fabricIn (file took)) (taken took) (now (c .entry .result))
   entry-taken =
       let took = c .before in
       entry-read (file took) (start took .args .shape) (start took .pre .0) (taken took) (entry-below took) _ (c .entry .ensures)
@@ -65,14 +69,17 @@ module _ (c : tie.After-entry) where
 out-is : (c : tie.After-out-port) → let took = c .before .before in outPortOf (fabricIn (file took)) (taken took) ≡ c .out-port .result
 out-is c = sym (c .out-port .ensures ∙ entry-taken (c .before) .out-port)
 
-header-is : (c : tie.After-apply) → let took = c .before .before .before .before in applied (fabricIn (file took)) (taken took) (start took .args .j .header) ≡ c .apply .result
-unfolding applied
+header-is : (c : tie.After-applied) → let took = c .before .before .before .before .before in
+    applied (wideIn (file took)) (taken took) (wordsOf (start took .args .j .header)) ≡ wordsOf (c .applied .result)
 header-is c =
-    let took = c .before .before .before .before in
-    ap₂ (λ (n : ℕ) (a : Act). acted n a (start took .args .j .header))
-    (words-are (file took) (start took .args .shape) (start took .pre .0))
-    (sym (c .before .action .ensures ∙ entry-taken (c .before .before .before) .action))
-    ∙ sym (c .apply .ensures)
+    let placed = c .before .before in
+    let read = placed .before .before in
+    let took = read .before in
+    applied-stored (file took) (start took .args .shape) (start took .pre .0) (taken took) _ (entry-taken read)
+    _ (placed .rewrite-at .ensures) _ (c .before .transfer .ensures) (wordsOf (start took .args .j .header)) _ (c .applied .ensures)
+
+few-hops : (c : tie.After-applied) → start (c .before .before .before .before .before) .args .j .hops < 16
+few-hops c = start (c .before .before .before .before .before) .pre .1 .1
 
 -- ---- the needs
 
@@ -112,48 +119,57 @@ entry-requires : tie.Need-entry-requires
 entry-requires c κs = (start c .pre .0, entry-below c)
 
 out-port-requires : tie.Need-out-port-requires
-out-port-requires c κs = entry-taken c .bytes .long
+out-port-requires c κs = omega (arith, entry-taken c .bytes .long)
 
-action-requires : tie.Need-action-requires
-action-requires c κs = entry-taken (c .before) .bytes .long
+rewrite-at-requires : tie.Need-rewrite-at-requires
+rewrite-at-requires c κs =
+    let took = c .before .before in
+    width-said (file took) (words-said (file took) (start took .args .shape) (start took .pre .0))
 
-apply-requires : tie.Need-apply-requires
-apply-requires c κs = search needs
+transfer-requires : tie.Need-transfer-requires
+transfer-requires c κs = omega (arith, entry-taken (c .before .before) .bytes .long)
 
-add-t25 : tie.Need-add-t25
-add-t25 c = search needs
+applied-requires : tie.Need-applied-requires
+applied-requires c κs =
+    let read = c .before .before .before in
+    let took = read .before in
+    rw (c .before .rewrite-at .ensures)
+    (rewrite-stored (bytes-long (file took) (start took .args .shape) (start took .pre .0) (entry-taken read .bytes)))
+
+add-t26 : tie.Need-add-t26
+add-t26 c = search needs
 
 returns-4 : tie.Need-returns-4
 returns-4 c =
     let applied = c .before in
-    let took = applied .before .before .before .before in
+    let took = applied .before .before .before .before .before in
     hopped-dropped _ (start took .args .j) (travels took) _ (one-took took) _ (header-is applied)
-    (out-is (applied .before .before) ∙ c .if4 .taken)
+    (out-is (applied .before .before .before) ∙ c .if4 .taken)
 
 link-after-requires : tie.Need-link-after-requires
 link-after-requires c κs =
-    let out = c .before .before .before in
+    let out = c .before .before .before .before in
     let pre = start (out .before .before) .pre in
     (pre .0, (pre .1 .0, omega (arith, out .out-port .ensures, entry-taken (out .before) .bytes .out-high)))
 
-add-t27 : tie.Need-add-t27
-add-t27 c = search needs
+add-t28 : tie.Need-add-t28
+add-t28 c = omega (arith, few-hops (c .before .before .before))
 
 returns-5 : tie.Need-returns-5
 returns-5 c =
     let applied = c .before .before .before in
-    let took = applied .before .before .before .before in
-    hopped-left _ (start took .args .j) (travels took) _ (one-took took) _ (header-is applied) _ (out-is (applied .before .before))
+    let took = applied .before .before .before .before .before in
+    hopped-left _ (start took .args .j) (travels took) _ (one-took took) _ (header-is applied) _ (out-is (applied .before .before .before))
     (c .before .before .if4 .left) (sym (c .before .link-after .ensures) ∙ c .if5 .taken)
 
-add-t21 : tie.Need-add-t21
-add-t21 c = search needs
+add-t22 : tie.Need-add-t22
+add-t22 c = omega (arith, few-hops (c .before .before .before))
 
 returns-6 : tie.Need-returns-6
 returns-6 c =
     let applied = c .before .before .before in
-    let took = applied .before .before .before .before in
-    hopped-on _ (start took .args .j) (travels took) _ (one-took took) _ (header-is applied) _ _ (out-is (applied .before .before))
+    let took = applied .before .before .before .before .before in
+    hopped-on _ (start took .args .j) (travels took) _ (one-took took) _ (header-is applied) _ _ (out-is (applied .before .before .before))
     (c .before .before .if4 .left) (sym (c .before .link-after .ensures)) (c .if5 .left)
 
 pub hop-spec : {M : Type 1} → statement M
@@ -170,12 +186,13 @@ hop-spec =
     array-write-entries
     entry-requires
     out-port-requires
-    action-requires
-    apply-requires
-    add-t25
+    rewrite-at-requires
+    transfer-requires
+    applied-requires
+    add-t26
     returns-4
     link-after-requires
-    add-t27
+    add-t28
     returns-5
-    add-t21
+    add-t22
     returns-6)

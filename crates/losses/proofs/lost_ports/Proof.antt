@@ -3,21 +3,20 @@ use mathlib.Core.Path.{_∙_}
 use Prim.Native.Nat.{_-_, _<_}
 use borrow.Author.Needs.{needs}
 use native.Mathlib.Omega.{arith}
-use Rattle.headers.specs.Forms.{setOf}
+use Rattle.wide.specs.Forms.{wideOf}
 use Rattle.entries.proofs.Entries.{entries-few}
 use Rattle.entries.proofs.InChains.{next-in-chain}
-use Rattle.backtrace.proofs.Tracings.{entries-from}
 use Rattle.backtrace.proofs.Trying.{part-ended, after-trials, part-traced}
 use Rattle.losses.proofs.Ports.{AtPort, ports-begin, ports-end, first-there, port-skipped, port-ended, port-through}
 use Rattle.losses.proofs.lost_ports.Statement.{statement}
 use Rattle.losses.proofs.lost_ports.Tie as tie
 
 abbrev Inv-loop : tie.InvT-loop
-Inv-loop file ask index area₀ t path₀ counters₀ base port₀ area path counters port =
-    AtPort file ask index (setOf t) counters₀ area₀ port path counters area
+Inv-loop file ask index area₀ t path₀ counters₀ port₀ area path counters port =
+    AtPort file ask index (wideOf t) counters₀ area₀ port path counters area
 
 abbrev μ-loop : tie.MeasureT-loop
-μ-loop file ask index area₀ t path₀ counters₀ base port₀ area path counters port = 4096 - port
+μ-loop file ask index area₀ t path₀ counters₀ port₀ area path counters port = 4096 - port
 
 -- ---- the moments
 
@@ -32,18 +31,15 @@ abbrev tried-of : tie.After-descend Inv-loop μ-loop → tie.After-next-met Inv-
 tried-of done = done .before .before .before .before
 
 abbrev start-of : tie.At-loop Inv-loop μ-loop → tie.Start Inv-loop μ-loop
-start-of l = l .before .before .before .before
+start-of l = l .before .before .before
 
 below : (here : tie.In-loop Inv-loop μ-loop) → here .before .loop .port < 4096
 below here = omega (arith, here .loop-test .taken)
 
 -- ---- the needs
 
-asked-requires : tie.Need-asked-requires Inv-loop μ-loop
-asked-requires c κs = search needs
-
 loop-holds : tie.Need-loop-holds Inv-loop μ-loop
-loop-holds c = ports-begin (c .before .before .before .pre)
+loop-holds c = ports-begin (c .before .before .pre)
 
 place-at-requires : tie.Need-place-at-requires Inv-loop μ-loop
 place-at-requires c κs = search needs
@@ -61,7 +57,7 @@ next-met-requires c κs =
     let inv = here .before .loop .inv in
     let along = first-there inv (below here) (first .first-in .ensures) in
     let chained = next-in-chain (entries-few (inv .tracing .asked .fabric)) along in (
-      entries-from (inv .tracing) (here .before .before .asked .ensures),
+      inv .tracing .asked,
       (inv .tracing .indexed, (chained .of-chain, inv .tracing .room .counters-long)),
     )
 
@@ -71,7 +67,7 @@ descend-requires c κs =
     let first = first-of tried in
     let here = looping first in
     let inv = here .before .loop .inv in
-    let t = setOf (start-of (here .before) .args .t) in
+    let t = wideOf (start-of (here .before) .args .t) in
     let along = first-there inv (below here) (first .first-in .ensures) in (
       after-trials (inv .tracing) _ 0 t along (tried .next-met .ensures),
       (below here, part-ended (inv .tracing) _ 0 t along (tried .next-met .ensures)),
@@ -90,7 +86,7 @@ returns c =
     let first = first-of tried in
     let here = looping first in
     let inv = here .before .loop .inv in
-    let t = setOf (start-of (here .before) .args .t) in
+    let t = wideOf (start-of (here .before) .args .t) in
     let along = first-there inv (below here) (first .first-in .ensures) in
     port-ended inv (below here) (first .before .before .place-at .ensures) (first .before .if1 .taken)
     (part-traced (inv .tracing) _ 0 t along (tried .next-met .ensures) _ _ (done .descend .ensures .0)) (c .if2 .taken)
@@ -105,7 +101,7 @@ loop-again c =
     let first = first-of tried in
     let here = looping first in
     let inv = here .before .loop .inv in
-    let t = setOf (start-of (here .before) .args .t) in
+    let t = wideOf (start-of (here .before) .args .t) in
     let along = first-there inv (below here) (first .first-in .ensures) in
     port-through inv (below here) (first .before .before .place-at .ensures) (first .before .if1 .taken)
     (part-traced (inv .tracing) _ 0 t along (tried .next-met .ensures) _ _ (done .descend .ensures .0))
@@ -131,7 +127,6 @@ lost-ports-spec =
     (tie.spec
     Inv-loop
     μ-loop
-    asked-requires
     loop-holds
     place-at-requires
     add-next

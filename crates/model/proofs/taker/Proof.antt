@@ -7,7 +7,8 @@ use denote.Ref.{now}
 use native.Mathlib.Omega.{arith}
 use Rattle.forwarding.specs.Best.{BestSoFar}
 use Rattle.forwarding.proofs.Best.{best-start, best-alone, best-several, best-none}
-use Rattle.model.specs.Model.{fabricIn}
+use Rattle.wide.specs.Forms.{wordsOf}
+use Rattle.model.specs.Model.{wideIn}
 use Rattle.model.specs.Taking.{IsBest}
 use Rattle.model.proofs.EntryRead.{entries-are}
 use Rattle.model.proofs.taker.Statement.{statement}
@@ -15,7 +16,7 @@ use Rattle.model.proofs.taker.Tie as tie
 
 abbrev Inv-loop : tie.InvT-loop
 Inv-loop file shape x h n best₀ i₀ best i =
-    (n ≡ shape .entries) × (i ≤ shape .entries) × (best .entry ≤ shape .entries) × IsBest (fabricIn file) x h i best
+    (n ≡ shape .entries) × (i ≤ shape .entries) × (best .entry ≤ shape .entries) × IsBest (wideIn file) x (wordsOf h) i best
 
 abbrev μ-loop : tie.MeasureT-loop
 μ-loop file shape x h n best₀ i₀ best i = shape .entries - i
@@ -26,9 +27,9 @@ loop-holds c =
       search needs,
       search needs,
       search needs,
-      subst (λ (b : ℕ). BestSoFar (fabricIn (now (s .args .file))) (s .args .x) (s .args .h) 0 b false)
+      subst (λ (b : ℕ). BestSoFar (wideIn (now (s .args .file))) (s .args .x) (wordsOf (s .args .h)) 0 b false)
           (entries-are (now (s .args .file)) (s .args .shape) (s .pre))
-          (best-start (fabricIn (now (s .args .file))) (s .args .x) (s .args .h)),
+          (best-start (wideIn (now (s .args .file))) (s .args .x) (wordsOf (s .args .h))),
     )
 
 better-requires : tie.Need-better-requires Inv-loop μ-loop
@@ -54,14 +55,14 @@ returns : tie.Need-returns Inv-loop μ-loop
 returns c =
     let s = c .before .before .before in
     let n = entries-are (now (s .args .file)) (s .args .shape) (s .pre) in
-    let all : c .before .loop .i ≡ fabricIn (now (s .args .file)) .entries = omega (arith, n) in
+    let all : c .before .loop .i ≡ wideIn (now (s .args .file)) .entries = omega (arith, n) in
     let r = c .before .loop .best in
-    let best = subst (λ (k : ℕ). IsBest (fabricIn (now (s .args .file))) (s .args .x) (s .args .h) k r) all (c .before .loop .inv .3) in
+    let best = subst (λ (k : ℕ). IsBest (wideIn (now (s .args .file))) (s .args .x) (wordsOf (s .args .h)) k r) all (c .before .loop .inv .3) in
     record {
       within = omega (arith, n);
-      one-takes = best-alone (fabricIn (now (s .args .file))) (s .args .x) (s .args .h) (r .entry) (r .tied) best;
-      several-take = best-several (fabricIn (now (s .args .file))) (s .args .x) (s .args .h) (r .entry) (r .tied) best;
-      none-takes = λ e. best-none (fabricIn (now (s .args .file))) (s .args .x) (s .args .h) (r .entry) (r .tied) best (λ l. omega arith);
+      one-takes = best-alone (wideIn (now (s .args .file))) (s .args .x) (wordsOf (s .args .h)) (r .entry) (r .tied) best;
+      several-take = best-several (wideIn (now (s .args .file))) (s .args .x) (wordsOf (s .args .h)) (r .entry) (r .tied) best;
+      none-takes = λ e. best-none (wideIn (now (s .args .file))) (s .args .x) (wordsOf (s .args .h)) (r .entry) (r .tied) best (λ l. omega arith);
     }
 
 pub taker-spec : {M : Type 1} → statement M

@@ -2,7 +2,7 @@
 use mathlib.Core.Bool.{Bool, _||_}
 use mathlib.Core.Path.{ap₂, _∙_}
 use borrow.Author.Needs.{needs}
-use Rattle.headers.specs.Forms.{setOf}
+use Rattle.wide.specs.Forms.{wideWords, wideOf}
 use Rattle.questions.specs.Questions.{firstNo}
 use Rattle.queries.specs.Queries.{traceQuestions}
 use Rattle.queries.proofs.list_no.Statement.{statement}
@@ -21,7 +21,7 @@ returns : tie.Need-returns
 returns c =
     let a = c .before .before .before .before .args in
     c .trace-no .ensures
-    ∙ ap₂ (λ (b d : Bool). firstNo (traceQuestions (b || d) (a .limit) (setOf (a .asked))))
+    ∙ ap₂ (λ (b d : Bool). firstNo (traceQuestions wideWords (b || d) (a .limit) (wideOf (a .asked))))
     (c .before .before .is-edge .ensures) (c .before .lost-asked .ensures)
 
 pub list-no-spec : {M : Type 1} → statement M

@@ -7,8 +7,8 @@ use Rattle.questions.specs.Questions.{pick}
 use Rattle.queries.proofs.trace_no.Statement.{statement}
 use Rattle.queries.proofs.trace_no.Tie as tie
 
-is-tidy-requires : tie.Need-is-tidy-requires
-is-tidy-requires c κs = search needs
+is-clean-requires : tie.Need-is-clean-requires
+is-clean-requires c κs = search needs
 
 limit-right-requires : tie.Need-limit-right-requires
 limit-right-requires c κs = search needs
@@ -29,7 +29,7 @@ returns c =
     ∙ ap (λ (n : ℕ). pick (last .before .before .before .args .right) n 8)
     (c .before .ask2 .ensures
     ∙ ap₂ (λ (y : Bool) (n : ℕ). pick y n 9) (last .before .limit-right .ensures)
-    (last .ask .ensures ∙ ap (λ (y : Bool). pick y 0 10) (last .before .before .is-tidy .ensures)))
+    (last .ask .ensures ∙ ap (λ (y : Bool). pick y 0 10) (last .before .before .is-clean .ensures)))
 
 pub trace-no-spec : {M : Type 1} → statement M
-trace-no-spec = tie.close (tie.spec is-tidy-requires limit-right-requires ask-requires ask-requires-2 ask-requires-3 returns)
+trace-no-spec = tie.close (tie.spec is-clean-requires limit-right-requires ask-requires ask-requires-2 ask-requires-3 returns)

@@ -19,11 +19,25 @@ kind-of-requires c κs = search needs
 version-of-requires : tie.Need-version-of-requires
 version-of-requires c κs = search needs
 
+version-requires : tie.Need-version-requires
+version-requires c κs = search needs
+
 returns : tie.Need-returns
 returns c =
-    let kind = c .before in
+    let said = c .before in
+    let kind = said .before in
     let count = kind .before in
-    asked.started-is _ _ _ _ _ (count .before .word .ensures) (kind .kind-of .ensures) (c .version-of .ensures) (count .count-of .ensures)
+    asked.started-is _ _ _ _ _ _ _ (count .before .word .ensures) (kind .kind-of .ensures) (said .version-of .ensures)
+    (c .version .ensures) (count .count-of .ensures)
 
 pub started-spec : {M : Type 1} → statement M
-started-spec = tie.close (tie.spec word-requires count-of-requires cast-count kind-of-requires version-of-requires returns)
+started-spec =
+    tie.close
+    (tie.spec
+    word-requires
+    count-of-requires
+    cast-count
+    kind-of-requires
+    version-of-requires
+    version-requires
+    returns)

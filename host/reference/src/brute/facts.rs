@@ -4,9 +4,9 @@ use std::collections::BTreeSet;
 
 use super::tally::Fact;
 use super::{foreign, Ends};
+use crate::bits::Bits;
 use crate::calls::Query;
 use crate::fabric::{Entry, Fabric};
-use crate::set::to_words;
 use crate::ternary::{self, Ternary};
 use crate::transfer::Transfer;
 use crate::ways::{holds, takers, Packet, Way, DROPPED, LOST, TIED, TRAVELLING};
@@ -19,7 +19,7 @@ fn when(happened: bool, fact: Fact) -> Option<Fact> {
 }
 
 /// What is in the runs of these packets.
-pub(super) fn facts_of_runs(all: &Ends) -> BTreeSet<Fact> {
+pub(super) fn facts_of_runs<B: Bits>(all: &Ends<B>) -> BTreeSet<Fact> {
     let mut facts = BTreeSet::new();
     for (packet, ends) in all {
         let Some(run) = packet.run_by(ends) else {
@@ -59,12 +59,16 @@ pub(super) fn facts_of_runs(all: &Ends) -> BTreeSet<Fact> {
 }
 
 /// Whether a packet is dropped and no entry did it.
-fn is_missed(fabric: &Fabric, run: &Way) -> bool {
+fn is_missed<B>(fabric: &Fabric<B>, run: &Way<B>) -> bool {
     let drops = |&last: &u32| fabric.entries[last as usize].out_port == 0;
     run.fate == Some(DROPPED) && !run.entries.last().is_some_and(drops)
 }
 
-fn facts_of_tie(fabric: &Fabric, run: &Way, takers: &[u32]) -> impl Iterator<Item = Fact> {
+fn facts_of_tie<B: Bits>(
+    fabric: &Fabric<B>,
+    run: &Way<B>,
+    takers: &[u32],
+) -> impl Iterator<Item = Fact> {
     let entries = takers.iter().map(|&taker| &fabric.entries[taker as usize]);
     let mut done = entries.map(|entry| (entry.out_port, entry.transfer, entry.rewrite));
     let first = done.next();
@@ -78,7 +82,7 @@ fn facts_of_tie(fabric: &Fabric, run: &Way, takers: &[u32]) -> impl Iterator<Ite
 }
 
 /// What is in the arrivals of these packets.
-pub(super) fn facts_of_arrivals(all: &Ends, query: &Query) -> BTreeSet<Fact> {
+pub(super) fn facts_of_arrivals<B: Bits>(all: &Ends<B>, query: &Query<B::Words>) -> BTreeSet<Fact> {
     let mut facts = BTreeSet::new();
     let mut leaks_by_the_earlier = false;
     for (packet, ends) in all {
@@ -112,11 +116,11 @@ pub(super) fn facts_of_arrivals(all: &Ends, query: &Query) -> BTreeSet<Fact> {
 }
 
 /// What is in a list of those of these packets that are lost.
-pub(super) fn facts_of_the_lost(all: &Ends, query: &Query) -> BTreeSet<Fact> {
+pub(super) fn facts_of_the_lost<B: Bits>(all: &Ends<B>, query: &Query<B::Words>) -> BTreeSet<Fact> {
     let mut facts = BTreeSet::new();
     for (packet, ends) in all {
         let found = || ends.iter().filter(|way| way.arrives(query));
-        let lost_outside = |way: &Way| way.fate == Some(LOST) && !way.arrives(query);
+        let lost_outside = |way: &Way<B>| way.fate == Some(LOST) && !way.arrives(query);
         let started_inside = holds(&query.asked(), packet.header);
         let by_choice = ends.iter().any(|way| way.fate != Some(LOST));
         for hops in found().map(|way| way.entries.len() as u32) {
@@ -135,12 +139,11 @@ pub(super) fn facts_of_the_lost(all: &Ends, query: &Query) -> BTreeSet<Fact> {
 }
 
 /// What the copies and swaps are by which a packet is found.
-fn facts_of_transfers(packet: &Packet, entries: &[u32]) -> BTreeSet<Fact> {
+fn facts_of_transfers<B: Bits>(packet: &Packet<B>, entries: &[u32]) -> BTreeSet<Fact> {
     let mut facts = BTreeSet::new();
     for (hop, entry) in transfers_on(packet, entries) {
-        let [src, dst, ..] = to_words(entry.rewrite.mask);
         let swaps = entry.transfer == Transfer::Swap;
-        let rewritten = swaps && src | dst != 0;
+        let rewritten = swaps && addresses(entry.rewrite.mask) != (0, 0);
         facts.extend(when(!swaps, Fact::FoundByACopy));
         facts.extend(when(swaps, Fact::FoundByASwap));
         facts.extend(when(rewritten, Fact::FoundByASwapRewritten));
@@ -149,13 +152,22 @@ fn facts_of_transfers(packet: &Packet, entries: &[u32]) -> BTreeSet<Fact> {
     facts
 }
 
+/// Words 0 and 1.
+fn addresses<B: Bits>(bits: B) -> (u32, u32) {
+    let words = bits.to_words();
+    (words.as_ref()[0], words.as_ref()[1])
+}
+
 /// The entries on this way that copy or swap and so change the header, each with
 /// the number of hops before it.
-fn transfers_on<'f>(packet: &Packet<'f>, entries: &[u32]) -> Vec<(usize, &'f Entry)> {
+fn transfers_on<'f, B: Bits>(
+    packet: &Packet<'f, B>,
+    entries: &[u32],
+) -> Vec<(usize, &'f Entry<B>)> {
     let changes = |hop: usize| {
         let before = packet.follow(&entries[..hop]);
-        let addresses = before.map(|way| to_words(way.header));
-        addresses.is_some_and(|[src, dst, ..]| src != dst)
+        let addresses = before.map(|way| addresses(way.header));
+        addresses.is_some_and(|(src, dst)| src != dst)
     };
     let taken = entries
         .iter()
@@ -168,9 +180,12 @@ fn transfers_on<'f>(packet: &Packet<'f>, entries: &[u32]) -> Vec<(usize, &'f Ent
 
 /// What is in the fabric itself, and in the back-trace for this query, which the
 /// slow one tells.
-pub(super) fn facts_of_trace(fabric: &Fabric, query: &Query) -> BTreeSet<Fact> {
+pub(super) fn facts_of_trace<B: Bits>(
+    fabric: &Fabric<B>,
+    query: &Query<B::Words>,
+) -> BTreeSet<Fact> {
     let mut facts = BTreeSet::new();
-    let undo = |entry: &Entry, wanted: &Ternary| {
+    let undo = |entry: &Entry<B>, wanted: &Ternary| {
         facts.extend(
             ternary::joins_agree(entry, wanted).map(|agree| match agree {
                 true => Fact::JoinsThatAgree,
@@ -188,7 +203,7 @@ pub(super) fn facts_of_trace(fabric: &Fabric, query: &Query) -> BTreeSet<Fact> {
 
 /// Whether two equals match below the last of these entries, where it takes
 /// the packet.
-fn equals_below(packet: &Packet, entries: &[u32]) -> bool {
+fn equals_below<B: Bits>(packet: &Packet<B>, entries: &[u32]) -> bool {
     let Some((&taker, before)) = entries.split_last() else {
         return false;
     };

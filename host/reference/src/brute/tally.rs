@@ -77,6 +77,17 @@ pub enum Fact {
     MissedBehindALink,
     /// A run that is still travelling at the limit, to where no entry takes it.
     TravellingToAMiss,
+    /// A packet that is found, and with an Ethernet bit turned is not.
+    FoundByEthernet,
+    /// Found with other Ethernet bits than it started with.
+    FoundRewritten,
+    /// A packet that arrives and is foreign, and with an Ethernet bit turned is not
+    /// foreign.
+    ForeignByEthernet,
+    /// A packet that meets a tie, and with an Ethernet bit turned meets none.
+    TiedByEthernet,
+    /// A packet that a list of the lost finds, and with an Ethernet bit turned not.
+    LostByEthernet,
 }
 
 impl Fact {
@@ -119,6 +130,14 @@ impl Fact {
         Fact::MissedAtTheStart,
         Fact::MissedBehindALink,
         Fact::TravellingToAMiss,
+    ];
+
+    /// Those that only Ethernet fields bring about, but for what is lost by them.
+    pub const OF_ETHERNET: [Fact; 4] = [
+        Fact::FoundByEthernet,
+        Fact::FoundRewritten,
+        Fact::ForeignByEthernet,
+        Fact::TiedByEthernet,
     ];
 }
 

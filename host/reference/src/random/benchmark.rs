@@ -11,6 +11,7 @@ mod random_denies;
 mod random_transit;
 mod replies;
 mod routed_campus;
+mod versions;
 
 pub use audited::audited;
 pub use campus::campus;
@@ -22,18 +23,20 @@ pub use random_denies::random_denies;
 pub use random_transit::random_transit;
 pub use replies::replies;
 pub use routed_campus::routed_campus;
+pub use versions::{deepest_in_version_2, in_both_versions, InBoth};
 
+use crate::bits::Bits;
 use crate::calls::Query;
 use crate::examples::{edge, entry, fabric, wild_query};
 use crate::fabric::{Entry, Fabric};
-use crate::set::{Rewrite, Set};
+use crate::set::{Header, Rewrite, Set};
 
 /// A fabric and what to ask of it.
 #[derive(Clone, Debug)]
-pub struct Benchmark {
+pub struct Benchmark<B: Bits = Header> {
     pub name: &'static str,
-    pub fabric: Fabric,
-    pub query: Query,
+    pub fabric: Fabric<B>,
+    pub query: Query<B::Words>,
 }
 
 impl Benchmark {

@@ -6,10 +6,10 @@ mod layout;
 mod records;
 
 use super::parts::{some_ports, tidy};
-use super::Rng;
-use crate::examples::{edge, entry};
-use crate::fabric::{Fabric, Link, PORTS};
-use crate::file::read;
+use super::source::Rng;
+use crate::bits::Bits;
+use crate::fabric::{Edge, Entry, Fabric, Link, PORTS};
+use crate::file::read_as;
 use crate::refusal::Refusal;
 
 use chance::{flipped, record_changed, start_flipped, words_changed};
@@ -18,20 +18,24 @@ use layout::{
 };
 use records::{
     link_misplaced, too_many_edges_or_links, too_many_entries, value_outside, wrong_edge_port,
-    wrong_entry_port, wrong_link_port,
+    wrong_entry_port, wrong_link_port, zero_bit_cared_for,
 };
 
-/// The ways and the array of them all, from one list of names.
+/// The ways and the arrays of them, from two lists of names.
 macro_rules! ways {
-    ($($how:ident,)*) => {
+    ($($how:ident,)*; $($wide:ident,)*) => {
         /// A way to damage a file, named for the clause that it breaks.
         #[derive(Clone, Copy, Debug, PartialEq, Eq)]
         pub enum Damage {
             $($how,)*
+            $($wide,)*
         }
 
         impl Damage {
+            /// Those of either version.
             pub const ALL: [Damage; 46] = [$(Damage::$how,)*];
+            /// Those of version 2 alone.
+            pub const OF_VERSION_2: [Damage; 4] = [$(Damage::$wide,)*];
         }
     };
 }
@@ -91,6 +95,13 @@ ways! {
     SwappedWords,
     RecordTwice,
     RecordGone,
+    ;
+    // Question 2.
+    MarkedAsVersion1,
+    // Question 5.
+    EdgeZeroBits,
+    MatchZeroBits,
+    RewriteZeroBits,
 }
 
 /// A damaged file and, unless the damage was at random, what refuses it.
@@ -101,18 +112,21 @@ pub struct Damaged {
 }
 
 /// The bytes of an accepted file, damaged in some way.
-pub fn damage(bytes: &[u8], rng: &mut Rng) -> Vec<u8> {
-    let how = rng.one_of(Damage::ALL);
+pub fn damage<B: Bits>(bytes: &[u8], rng: &mut Rng<B>) -> Vec<u8> {
+    let how = match B::VERSION == 2 && rng.once_in(10) {
+        true => rng.one_of(Damage::OF_VERSION_2),
+        false => rng.one_of(Damage::ALL),
+    };
     inflict(how, bytes, rng).bytes
 }
 
 /// The bytes of an accepted file, damaged in this way. Where the damage needs
 /// records that aren't there, they are added first. A file that isn't accepted
 /// only has a bit flipped.
-pub fn inflict(how: Damage, bytes: &[u8], rng: &mut Rng) -> Damaged {
+pub fn inflict<B: Bits>(how: Damage, bytes: &[u8], rng: &mut Rng<B>) -> Damaged {
     let one_bit = 1 << rng.below(8);
     let some_bits = rng.between(1, 0xff) as u8;
-    let Ok(mut fabric) = read(bytes) else {
+    let Ok(mut fabric) = read_as::<B>(bytes) else {
         return flipped(bytes, one_bit, rng);
     };
     furnish(&mut fabric, rng);
@@ -120,7 +134,9 @@ pub fn inflict(how: Damage, bytes: &[u8], rng: &mut Rng) -> Damaged {
     use Damage::*;
     match how {
         TooShort | NotWholeWords | TooLong => wrong_length(how, file, rng),
-        Truncated | Padded | WrongCount | WrongVersion | NoStart => wrong_start(how, file, rng),
+        Truncated | Padded | WrongCount | WrongVersion | NoStart | MarkedAsVersion1 => {
+            wrong_start(how, file, rng)
+        }
         NoWordHere | UnknownKind | SmallerKind | RecordNotInside => wrong_kind(how, file, rng),
         LinkZeroBits | EntryZeroBits | EndZeroBits => stray_zero_bit(how, file, rng),
         TransferAboveTwo | TransferAndZeroBits => wrong_transfer(how, file, rng),
@@ -133,6 +149,7 @@ pub fn inflict(how: Damage, bytes: &[u8], rng: &mut Rng) -> Damaged {
         EdgeValueOutside | MatchValueOutside | RewriteValueOutside => {
             value_outside(how, fabric, rng)
         }
+        EdgeZeroBits | MatchZeroBits | RewriteZeroBits => zero_bit_cared_for(how, fabric, rng),
         LinkFromEdge | LinkToEdge | LinksWithOneEnd => link_misplaced(how, fabric, rng),
         EdgeTooMany | LinkTooMany => too_many_edges_or_links(how, fabric, rng),
         EntryTooMany | EntryTooManyAtInPort => too_many_entries(how, fabric, rng),
@@ -145,24 +162,24 @@ pub fn inflict(how: Damage, bytes: &[u8], rng: &mut Rng) -> Damaged {
 }
 
 /// At least two edges, two links and an entry.
-fn furnish(fabric: &mut Fabric, rng: &mut Rng) {
+fn furnish<B: Bits>(fabric: &mut Fabric<B>, rng: &mut Rng<B>) {
     let mut ports = unused_ports(fabric, rng).into_iter();
     let mut port = || ports.next().unwrap_or(1);
     while fabric.edges.len() < 2 {
-        fabric.edges.push(edge(1, port()));
+        fabric.edges.push(Edge::open(1, port()));
     }
     while fabric.links.len() < 2 {
         let (from, to) = (port(), port());
         fabric.links.push(Link { from, to });
     }
     if fabric.entries.is_empty() {
-        fabric.entries.push(entry(1, port(), 0));
+        fabric.entries.push(Entry::plain(1, port(), 0));
     }
     tidy(fabric);
 }
 
 /// The ports that no edge, link or entry has, in random order.
-fn unused_ports(fabric: &Fabric, rng: &mut Rng) -> Vec<u16> {
+fn unused_ports<B: Bits>(fabric: &Fabric<B>, rng: &mut Rng<B>) -> Vec<u16> {
     let mut used = vec![false; PORTS];
     let edges = fabric.edges.iter().map(|edge| edge.port);
     let from = fabric.links.iter().map(|link| link.from);

@@ -1,12 +1,12 @@
 //! Equal priorities on purpose, or none at all.
 
-use super::Rng;
-use crate::examples::entry;
-use crate::fabric::{Entry, Fabric, MOST_ENTRIES, MOST_ENTRIES_PER_IN_PORT};
+use super::source::Rng;
+use crate::bits::Bits;
+use crate::fabric::{Entry, Fabric, MOST_ENTRIES_PER_IN_PORT};
 
 /// In a third of the fabrics some entries get an equal, in a third none has
 /// one, and a third stays as it came.
-pub(super) fn settle(rng: &mut Rng, fabric: &mut Fabric) {
+pub(super) fn settle<B: Bits>(rng: &mut Rng<B>, fabric: &mut Fabric<B>) {
     match rng.below(3) {
         0 => untie(fabric),
         1 => tie(rng, fabric),
@@ -15,7 +15,7 @@ pub(super) fn settle(rng: &mut Rng, fabric: &mut Fabric) {
 }
 
 /// All priorities of an in-port differ: of equals the earlier gets the higher.
-fn untie(fabric: &mut Fabric) {
+fn untie<B: Bits>(fabric: &mut Fabric<B>) {
     let before = fabric.entries.clone();
     let is_below = |one: usize, other: usize| {
         let (a, b) = (&before[one], &before[other]);
@@ -31,18 +31,18 @@ fn untie(fabric: &mut Fabric) {
 const STEP: u16 = 1021;
 
 /// Up to one entry in eight gets an equal, whose match meets its own.
-fn tie(rng: &mut Rng, fabric: &mut Fabric) {
+fn tie<B: Bits>(rng: &mut Rng<B>, fabric: &mut Fabric<B>) {
     for _ in 0..rng.between(1, 1 + fabric.entries.len() / 8) {
         let picked = (rng.pick(&fabric.entries), rng.pick(&fabric.entries));
         let (Some(&model), Some(&other)) = picked else {
             return;
         };
-        let here = |entry: &&Entry| entry.in_port == model.in_port;
+        let here = |entry: &&Entry<B>| entry.in_port == model.in_port;
         if fabric.entries.iter().filter(here).count() == MOST_ENTRIES_PER_IN_PORT {
             continue;
         }
-        if fabric.entries.len() == MOST_ENTRIES {
-            fabric.entries.remove(rng.below(MOST_ENTRIES));
+        if fabric.entries.len() == B::MOST_ENTRIES {
+            fabric.entries.remove(rng.below(B::MOST_ENTRIES));
         }
         let place = rng.below(fabric.entries.len() + 1);
         fabric.entries.insert(place, equal_of(rng, model, other));
@@ -50,13 +50,13 @@ fn tie(rng: &mut Rng, fabric: &mut Fabric) {
 }
 
 /// Matches the same or more, and does the same, or as another entry does.
-fn equal_of(rng: &mut Rng, model: Entry, other: Entry) -> Entry {
-    let kept = rng.bits() | rng.one_of([0, !0]);
+fn equal_of<B: Bits>(rng: &mut Rng<B>, model: Entry<B>, other: Entry<B>) -> Entry<B> {
+    let kept = rng.bits() | rng.one_of([B::NONE, !B::NONE]);
     let mut out_port = rng.one_of([model.out_port, other.out_port, other.out_port, 0]);
     if out_port == model.in_port {
         out_port = 0;
     }
-    let plain = entry(model.priority, model.in_port, out_port);
+    let plain = Entry::plain(model.priority, model.in_port, out_port);
     let does = rng.one_of([model, other, plain]);
     Entry {
         matching: model.matching.map(|bits| bits & kept),

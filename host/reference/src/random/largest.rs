@@ -1,15 +1,16 @@
 //! The largest file.
 
 use super::parts::{address, field_rewrite, in_port, out_port, prefix_of, some_ports, tidy};
-use super::{finish, Rng};
-use crate::examples::entry;
+use super::source::Rng;
+use super::{ethernet, finish};
+use crate::bits::Bits;
 use crate::fabric::{
-    Edge, Entry, Fabric, Link, MOST_EDGES, MOST_ENTRIES, MOST_ENTRIES_PER_IN_PORT, MOST_LINKS,
-    PORTS,
+    Edge, Entry, Fabric, Link, MOST_EDGES, MOST_ENTRIES_PER_IN_PORT, MOST_LINKS, PORTS,
 };
 
-/// The largest file: 64 edges, 256 links, 512 entries, 40,200 bytes.
-pub fn largest(rng: &mut Rng) -> Fabric {
+/// The largest file: 64 edges, 256 links, 512 entries, 40,200 bytes; in version 2
+/// 400 entries, 59,784 bytes.
+pub fn largest<B: Bits>(rng: &mut Rng<B>) -> Fabric<B> {
     let ports = some_ports(rng, MOST_EDGES + MOST_LINKS + 1);
     let (edge_ports, inner) = ports.split_at(MOST_EDGES);
     let mut fabric = Fabric::default();
@@ -29,7 +30,7 @@ pub fn largest(rng: &mut Rng) -> Fabric {
     }
     tidy(&mut fabric);
     let mut entries_at = vec![0; PORTS];
-    while fabric.entries.len() < MOST_ENTRIES {
+    while fabric.entries.len() < B::MOST_ENTRIES {
         let in_port = in_port(rng, &fabric, &ports, 8);
         if entries_at[usize::from(in_port)] == MOST_ENTRIES_PER_IN_PORT {
             continue;
@@ -42,9 +43,10 @@ pub fn largest(rng: &mut Rng) -> Fabric {
         fabric.entries.push(Entry {
             matching: prefix_of(1, to, length),
             rewrite: field_rewrite(rng),
-            ..entry(priority, in_port, out_port)
+            ..Entry::plain(priority, in_port, out_port)
         });
     }
+    ethernet::scatter(rng, &mut fabric);
     finish(rng, &mut fabric);
     fabric
 }

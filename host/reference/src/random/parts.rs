@@ -1,17 +1,18 @@
 //! What random fabrics are put together from.
 
-use super::Rng;
+use super::source::Rng;
+use crate::bits::Bits;
 use crate::fabric::{Fabric, PORTS};
 use crate::set::{Rewrite, Set};
 
 /// Edges and links in rising order, as question 4 wants them.
-pub(super) fn tidy(fabric: &mut Fabric) {
+pub(super) fn tidy<B>(fabric: &mut Fabric<B>) {
     fabric.edges.sort_by_key(|edge| edge.port);
     fabric.links.sort_by_key(|link| link.from);
 }
 
 /// Different ports in random order, often the last port among them.
-pub(super) fn some_ports(rng: &mut Rng, number: usize) -> Vec<u16> {
+pub(super) fn some_ports<B: Bits>(rng: &mut Rng<B>, number: usize) -> Vec<u16> {
     let mut ports: Vec<u16> = (1..PORTS as u16).collect();
     rng.shuffle(&mut ports);
     let last = ports
@@ -25,7 +26,12 @@ pub(super) fn some_ports(rng: &mut Rng, number: usize) -> Vec<u16> {
 }
 
 /// Mostly an edge or the end of a link, once in `inward` any port.
-pub(super) fn in_port(rng: &mut Rng, fabric: &Fabric, ports: &[u16], inward: usize) -> u16 {
+pub(super) fn in_port<B: Bits>(
+    rng: &mut Rng<B>,
+    fabric: &Fabric<B>,
+    ports: &[u16],
+    inward: usize,
+) -> u16 {
     let edges = fabric.edges.iter().map(|edge| edge.port);
     let ends = fabric.links.iter().map(|link| link.to);
     let open: Vec<u16> = edges.chain(ends).collect();
@@ -38,7 +44,12 @@ pub(super) fn in_port(rng: &mut Rng, fabric: &Fabric, ports: &[u16], inward: usi
 }
 
 /// Mostly an edge or the start of a link, sometimes a drop or any port.
-pub(super) fn out_port(rng: &mut Rng, fabric: &Fabric, ports: &[u16], in_port: u16) -> u16 {
+pub(super) fn out_port<B: Bits>(
+    rng: &mut Rng<B>,
+    fabric: &Fabric<B>,
+    ports: &[u16],
+    in_port: u16,
+) -> u16 {
     let edges: Vec<u16> = fabric.edges.iter().map(|edge| edge.port).collect();
     let starts: Vec<u16> = fabric.links.iter().map(|link| link.from).collect();
     let from = match rng.below(10) {
@@ -55,31 +66,38 @@ pub(super) fn out_port(rng: &mut Rng, fabric: &Fabric, ports: &[u16], in_port: u
     }
 }
 
-/// Different bits, 3 to 64: some of nw_src with the same ones of nw_dst, and
-/// others of the last two words.
-pub(super) fn spread_bits(rng: &mut Rng, number: usize) -> Vec<u32> {
-    let addresses = 2 * rng.between(1, number / 2);
+/// Different bits, 3 to 64: some of nw_src with the same ones of nw_dst, and others
+/// of the words behind these.
+pub(super) fn spread_bits<B: Bits>(rng: &mut Rng<B>, number: usize) -> Vec<u32> {
+    // In version 2 fewer of the addresses, so that there are Ethernet fields' too.
+    let addresses = 2 * rng.between(1, 2 * number / B::WORDS);
     let mut bits: Vec<u32> = Vec::new();
     while bits.len() < number {
         let place = rng.below(32) as u32;
-        let of_addresses = [96 + place, 64 + place];
-        let of_a_last_word = [bits.len() as u32 % 2 * 32 + place];
         let new = match bits.len() < addresses {
-            true => &of_addresses[..],
-            false => &of_a_last_word,
+            true => vec![B::number(0, place), B::number(1, place)],
+            false => vec![B::number(word_behind(rng, bits.len()), place)],
         };
-        if !bits.contains(&new[0]) {
+        if !bits.contains(&new[0]) && !B::ZERO_BITS.has(new[0]) {
             bits.extend(new);
         }
     }
     bits
 }
 
-pub(super) fn mask_of(bits: &[u32]) -> u128 {
-    bits.iter().fold(0, |mask, bit| mask | 1 << bit)
+/// A word behind the addresses, for a bit after so many others.
+fn word_behind<B: Bits>(rng: &mut Rng<B>, others: usize) -> usize {
+    match B::VERSION {
+        1 => 3 - others % 2,
+        _ => rng.one_of([2, 3, 4, 5, 5, 6, 7, 7]),
+    }
 }
 
-pub(super) fn proper(set: Set) -> Set {
+pub(super) fn mask_of<B: Bits>(bits: &[u32]) -> B {
+    bits.iter().fold(B::NONE, |mask, &bit| mask | B::bit(bit))
+}
+
+pub(super) fn proper<B: Bits>(set: Set<B>) -> Set<B> {
     Set {
         care: set.care,
         value: set.value & set.care,
@@ -87,7 +105,7 @@ pub(super) fn proper(set: Set) -> Set {
 }
 
 /// A set that cares for up to `most` of these bits.
-pub(super) fn set_over(rng: &mut Rng, bits: &[u32], most: usize) -> Set {
+pub(super) fn set_over<B: Bits>(rng: &mut Rng<B>, bits: &[u32], most: usize) -> Set<B> {
     let mut bits = bits.to_vec();
     rng.shuffle(&mut bits);
     bits.truncate(rng.below(most + 1));
@@ -98,7 +116,7 @@ pub(super) fn set_over(rng: &mut Rng, bits: &[u32], most: usize) -> Set {
 }
 
 /// Mostly none; else a rewrite of up to `most` of these bits.
-pub(super) fn rewrite_over(rng: &mut Rng, bits: &[u32], most: usize) -> Rewrite {
+pub(super) fn rewrite_over<B: Bits>(rng: &mut Rng<B>, bits: &[u32], most: usize) -> Rewrite<B> {
     if !rng.once_in(3) {
         return Rewrite::NONE;
     }
@@ -106,7 +124,7 @@ pub(super) fn rewrite_over(rng: &mut Rng, bits: &[u32], most: usize) -> Rewrite 
 }
 
 /// The headers in both of two sets that care for different bits.
-pub(super) fn both(one: Set, other: Set) -> Set {
+pub(super) fn both<B: Bits>(one: Set<B>, other: Set<B>) -> Set<B> {
     Set {
         care: one.care | other.care,
         value: one.value | other.value,
@@ -119,25 +137,21 @@ pub(super) fn address(switch: usize, place: usize) -> u32 {
 }
 
 /// The headers whose given word starts with this many bits of the address.
-pub(super) fn prefix_of(word: usize, address: u32, length: u32) -> Set {
+pub(super) fn prefix_of<B: Bits>(word: usize, address: u32, length: u32) -> Set<B> {
     let mask = u32::MAX.checked_shl(32 - length).unwrap_or(0);
-    let (mut care, mut value) = ([0; 4], [0; 4]);
-    care[word] = mask;
-    value[word] = address & mask;
-    Set::of_words(care, value)
+    Set::of_word(word, mask, address)
 }
 
 /// Mostly none; else dl_vlan, tp_dst, nw_tos or an address.
-pub(super) fn field_rewrite(rng: &mut Rng) -> Rewrite {
+pub(super) fn field_rewrite<B: Bits>(rng: &mut Rng<B>) -> Rewrite<B> {
     let number = rng.between(1, 3) as u32;
     let address = address(number as usize, 0);
-    let (care, value) = match rng.below(12) {
-        0 => ([0, 0, 0, 0xffff_0000], [0, 0, 0, number << 16]),
-        1 => ([0, 0, 0xffff, 0], [0, 0, 79 + number, 0]),
-        2 => ([0, 0, 0, 0xff00], [0, 0, 0, number << 8]),
-        3 => ([u32::MAX, 0, 0, 0], [address, 0, 0, 0]),
-        4 => ([0, u32::MAX, 0, 0], [0, address, 0, 0]),
-        _ => ([0; 4], [0; 4]),
-    };
-    Rewrite::to(Set::of_words(care, value))
+    Rewrite::to(match rng.below(12) {
+        0 => Set::of_word(3, 0xffff_0000, number << 16),
+        1 => Set::of_word(2, 0xffff, 79 + number),
+        2 => Set::of_word(3, 0xff00, number << 8),
+        3 => Set::of_word(0, u32::MAX, address),
+        4 => Set::of_word(1, u32::MAX, address),
+        _ => Set::ALL_WILD,
+    })
 }

@@ -1,16 +1,17 @@
 //! Random queries of a fabric.
 
 use super::parts::{set_over, spread_bits};
-use super::{Rng, Small};
+use super::source::Rng;
+use super::Small;
+use crate::bits::Bits;
 use crate::calls::Query;
-use crate::examples::wild_query;
 use crate::fabric::Fabric;
-use crate::set::{to_words, Set};
+use crate::set::Set;
 use crate::transfer::Transfer;
 
 /// A verdict's or list's query, in range or not. The budget has mostly less
 /// than `most` units.
-pub fn query(rng: &mut Rng, fabric: &Fabric, most: u32) -> Query {
+pub fn query<B: Bits>(rng: &mut Rng<B>, fabric: &Fabric<B>, most: u32) -> Query<B::Words> {
     let asked = match rng.below(4) {
         0 => Set::ALL_WILD,
         1 => admitted(rng, fabric),
@@ -19,23 +20,32 @@ pub fn query(rng: &mut Rng, fabric: &Fabric, most: u32) -> Query {
             set_over(rng, &bits, 4)
         }
         _ => {
-            let bits: Vec<u32> = (0..128).collect();
+            let all = 0..32 * B::WORDS as u32;
+            let bits: Vec<u32> = all.filter(|&bit| !B::ZERO_BITS.has(bit)).collect();
             set_over(rng, &bits, 3)
         }
     };
     let stray = match rng.once_in(30) {
-        true => 1 << rng.below(128),
-        false => 0,
+        true => B::bit(rng.below(32 * B::WORDS) as u32),
+        false => B::NONE,
     };
-    let query = wild_query(port(rng, fabric), limit(rng), budget(rng, most));
+    let query = Query::wild(port(rng, fabric), limit(rng), budget(rng, most));
     query.about(Set {
-        care: asked.care,
+        care: asked.care | zero_bit(rng),
         value: asked.value ^ stray,
     })
 }
 
+/// Mostly none; in version 2 at times one of the bits that must be zero.
+fn zero_bit<B: Bits>(rng: &mut Rng<B>) -> B {
+    if B::ZERO_BITS.is_none() || !rng.once_in(30) {
+        return B::NONE;
+    }
+    rng.one_of([0, 3, 7].map(B::bit))
+}
+
 /// The same for a list: one in six is of the packets that are lost.
-pub fn list_query(rng: &mut Rng, fabric: &Fabric, most: u32) -> Query {
+pub fn list_query<B: Bits>(rng: &mut Rng<B>, fabric: &Fabric<B>, most: u32) -> Query<B::Words> {
     let asked = query(rng, fabric, most);
     match rng.once_in(6) {
         true => asked.of_the_lost(),
@@ -46,13 +56,13 @@ pub fn list_query(rng: &mut Rng, fabric: &Fabric, most: u32) -> Query {
 /// A query in range that cares for the fabric's few bits alone, with all of
 /// the budget. One in six is of the packets that are lost, as are all if there is
 /// no edge.
-pub fn small_query(rng: &mut Rng, small: &Small) -> Query {
+pub fn small_query<B: Bits>(rng: &mut Rng<B>, small: &Small<B>) -> Query<B::Words> {
     let asked = set_over(rng, &small.bits, 2);
     let limit = match rng.once_in(3) {
         true => 16,
         false => rng.between(1, 6) as u32,
     };
-    let query = wild_query(target(rng, &small.fabric), limit, u32::MAX).about(asked);
+    let query = Query::wild(target(rng, &small.fabric), limit, u32::MAX).about(asked);
     match rng.once_in(6) {
         true => query.of_the_lost(),
         false => query,
@@ -60,7 +70,7 @@ pub fn small_query(rng: &mut Rng, small: &Small) -> Query {
 }
 
 /// An edge port, mostly one that an entry sends to; 0 if there is none.
-fn target(rng: &mut Rng, fabric: &Fabric) -> u32 {
+fn target<B: Bits>(rng: &mut Rng<B>, fabric: &Fabric<B>) -> u32 {
     let edges: Vec<u32> = fabric.edges.iter().map(|edge| edge.port.into()).collect();
     let mut sent_to: Vec<u32> = fabric
         .entries
@@ -78,8 +88,8 @@ fn target(rng: &mut Rng, fabric: &Fabric) -> u32 {
 
 /// A run's query, in range or not: the header is close to what the fabric's
 /// matches hold, some of them once the addresses are swapped.
-pub fn packet(rng: &mut Rng, fabric: &Fabric) -> Query {
-    let mut header = if rng.once_in(3) { rng.bits() } else { 0 };
+pub fn packet<B: Bits>(rng: &mut Rng<B>, fabric: &Fabric<B>) -> Query<B::Words> {
+    let mut header = if rng.once_in(3) { rng.bits() } else { B::NONE };
     for _ in 0..rng.between(0, 3) {
         if let Some(entry) = rng.pick(&fabric.entries) {
             let set = entry.matching;
@@ -87,25 +97,21 @@ pub fn packet(rng: &mut Rng, fabric: &Fabric) -> Query {
         }
         header = rng.one_of([Transfer::None, Transfer::Swap]).apply(header);
     }
-    let mut care = [u32::MAX; 4];
+    let mut asked = Set::only(header);
     if rng.once_in(30) {
-        care[rng.below(4)] ^= 1 << rng.below(32);
+        let place = rng.below(32) as u32;
+        asked.care = asked.care ^ B::bit(B::number(rng.below(B::WORDS), place));
     }
-    Query {
-        port: port(rng, fabric),
-        limit: limit(rng),
-        budget: rng.draw() as u32,
-        care,
-        value: to_words(header),
-    }
+    let query = Query::wild(port(rng, fabric), limit(rng), rng.draw() as u32);
+    query.about(asked)
 }
 
-fn admitted(rng: &mut Rng, fabric: &Fabric) -> Set {
+fn admitted<B: Bits>(rng: &mut Rng<B>, fabric: &Fabric<B>) -> Set<B> {
     let edge = rng.pick(&fabric.edges);
     edge.map_or(Set::ALL_WILD, |edge| edge.admitted)
 }
 
-fn port(rng: &mut Rng, fabric: &Fabric) -> u32 {
+fn port<B: Bits>(rng: &mut Rng<B>, fabric: &Fabric<B>) -> u32 {
     match rng.below(30) {
         0 => rng.draw() as u32,
         1 => rng.below(4097) as u32,
@@ -115,7 +121,7 @@ fn port(rng: &mut Rng, fabric: &Fabric) -> u32 {
     }
 }
 
-fn limit(rng: &mut Rng) -> u32 {
+fn limit<B: Bits>(rng: &mut Rng<B>) -> u32 {
     match rng.below(30) {
         0 => rng.one_of([0, 17, 18, 257, u32::MAX]),
         1..=10 => 16,
@@ -123,7 +129,7 @@ fn limit(rng: &mut Rng) -> u32 {
     }
 }
 
-fn budget(rng: &mut Rng, most: u32) -> u32 {
+fn budget<B: Bits>(rng: &mut Rng<B>, most: u32) -> u32 {
     match rng.below(6) {
         0 => rng.below(4) as u32,
         1 | 2 => rng.below(most as usize / 100 + 1) as u32,

@@ -1,14 +1,15 @@
 //! Rings of switches.
 
 use super::parts::{address, field_rewrite, prefix_of, some_ports, tidy};
-use super::{finish, Rng};
-use crate::examples::entry;
+use super::source::Rng;
+use super::{ethernet, finish};
+use crate::bits::Bits;
 use crate::fabric::{Edge, Entry, Fabric, Link};
 use crate::set::Set;
 
 /// A ring of 2 to 16 switches, each with an edge: the way round takes as
 /// many hops. Packets for no switch go round without end.
-pub fn ring(rng: &mut Rng) -> Fabric {
+pub fn ring<B: Bits>(rng: &mut Rng<B>) -> Fabric<B> {
     let number = rng.between(2, 16);
     let ports = some_ports(rng, number * 3);
     let mut fabric = Fabric::default();
@@ -29,7 +30,7 @@ pub fn ring(rng: &mut Rng) -> Fabric {
             fabric.entries.push(Entry {
                 matching,
                 rewrite: field_rewrite(rng),
-                ..entry(priority, in_port, out_port)
+                ..Entry::plain(priority, in_port, out_port)
             });
         };
         add(ring_in, edge, 5, to_here);
@@ -41,12 +42,13 @@ pub fn ring(rng: &mut Rng) -> Fabric {
             let from = address(rng.below(number), 0);
             fabric.entries.push(Entry {
                 matching: prefix_of(0, from, 16),
-                ..entry(4, in_port, 0)
+                ..Entry::plain(4, in_port, 0)
             });
         }
     }
     tidy(&mut fabric);
     rng.shuffle(&mut fabric.entries);
+    ethernet::scatter(rng, &mut fabric);
     finish(rng, &mut fabric);
     fabric
 }

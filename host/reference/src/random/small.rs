@@ -3,20 +3,21 @@
 //! bit of nw_dst, so that copies and swaps stay among them.
 
 use super::parts::{in_port, out_port, rewrite_over, set_over, some_ports, spread_bits, tidy};
-use super::{finish, misses, transfers, Rng};
-use crate::examples::entry;
+use super::source::Rng;
+use super::{finish, misses, transfers};
+use crate::bits::Bits;
 use crate::fabric::{Edge, Entry, Fabric, Link};
-use crate::set::Set;
+use crate::set::{Header, Set};
 
 /// A fabric that cares for and rewrites only these bits.
 #[derive(Clone, Debug)]
-pub struct Small {
-    pub fabric: Fabric,
+pub struct Small<B = Header> {
+    pub fabric: Fabric<B>,
     pub bits: Vec<u32>,
 }
 
 /// A handful of records, at times none.
-pub fn tiny(rng: &mut Rng) -> Small {
+pub fn tiny<B: Bits>(rng: &mut Rng<B>) -> Small<B> {
     let shape = Shape {
         edges: rng.between(0, 3),
         links: rng.between(0, 2),
@@ -31,7 +32,7 @@ pub fn tiny(rng: &mut Rng) -> Small {
 }
 
 /// A few edges, links and entries over some bits.
-pub fn small(rng: &mut Rng) -> Small {
+pub fn small<B: Bits>(rng: &mut Rng<B>) -> Small<B> {
     let shape = Shape {
         edges: rng.between(2, 4),
         links: rng.between(1, 5),
@@ -46,7 +47,7 @@ pub fn small(rng: &mut Rng) -> Small {
 }
 
 /// Equal priorities, and matches that meet: several entries may take a packet.
-pub fn ties(rng: &mut Rng) -> Small {
+pub fn ties<B: Bits>(rng: &mut Rng<B>) -> Small<B> {
     let shape = Shape {
         edges: rng.between(2, 3),
         links: rng.between(1, 3),
@@ -64,7 +65,7 @@ pub fn ties(rng: &mut Rng) -> Small {
 }
 
 /// Many in-ports that are neither an edge nor a link's end.
-pub fn dead_ends(rng: &mut Rng) -> Small {
+pub fn dead_ends<B: Bits>(rng: &mut Rng<B>) -> Small<B> {
     let shape = Shape {
         edges: rng.between(2, 3),
         links: rng.between(1, 3),
@@ -97,13 +98,13 @@ struct Shape {
 }
 
 /// Some with ties on purpose, some with none.
-fn finished(rng: &mut Rng, shape: &Shape) -> Small {
+fn finished<B: Bits>(rng: &mut Rng<B>, shape: &Shape) -> Small<B> {
     let mut made = shaped(rng, shape);
     finish(rng, &mut made.fabric);
     made
 }
 
-fn shaped(rng: &mut Rng, shape: &Shape) -> Small {
+fn shaped<B: Bits>(rng: &mut Rng<B>, shape: &Shape) -> Small<B> {
     let bits = spread_bits(rng, shape.bits);
     let ports = some_ports(rng, shape.edges + shape.inner);
     let (edge_ports, inner) = ports.split_at(shape.edges);
@@ -125,7 +126,7 @@ fn shaped(rng: &mut Rng, shape: &Shape) -> Small {
         fabric.entries.push(Entry {
             matching: set_over(rng, &bits, shape.cared),
             rewrite: rewrite_over(rng, &bits, 3),
-            ..entry(priority, in_port, out_port)
+            ..Entry::plain(priority, in_port, out_port)
         });
     }
     Small { fabric, bits }
@@ -133,7 +134,7 @@ fn shaped(rng: &mut Rng, shape: &Shape) -> Small {
 
 /// A ring of 2 to 6 switches, where packets that are rewritten on the way leave
 /// after many hops.
-pub fn small_ring(rng: &mut Rng) -> Small {
+pub fn small_ring<B: Bits>(rng: &mut Rng<B>) -> Small<B> {
     let number = rng.between(2, 6);
     let bits_used = rng.between(5, 7);
     let bits = spread_bits(rng, bits_used);
@@ -162,7 +163,7 @@ pub fn small_ring(rng: &mut Rng) -> Small {
 
 /// The same with gaps: of the entries that take whatever comes, one in two takes
 /// only some of it, so that packets are lost after many hops.
-pub fn leaky_ring(rng: &mut Rng) -> Small {
+pub fn leaky_ring<B: Bits>(rng: &mut Rng<B>) -> Small<B> {
     let mut made = small_ring(rng);
     for entry in &mut made.fabric.entries {
         if entry.matching == Set::ALL_WILD && rng.once_in(2) {
@@ -173,7 +174,7 @@ pub fn leaky_ring(rng: &mut Rng) -> Small {
 }
 
 /// With priority 0 all go on round the ring; above it, some leave or are dropped.
-fn ring_entry(rng: &mut Rng, bits: &[u32], ports: [u16; 3], priority: u16) -> Entry {
+fn ring_entry<B: Bits>(rng: &mut Rng<B>, bits: &[u32], ports: [u16; 3], priority: u16) -> Entry<B> {
     let [in_port, edge, ring_out] = ports;
     let anywhere = rng.one_of([0, edge, ring_out, ring_out]);
     let onward = priority == 0 || anywhere == in_port;
@@ -182,12 +183,12 @@ fn ring_entry(rng: &mut Rng, bits: &[u32], ports: [u16; 3], priority: u16) -> En
     Entry {
         matching: set_over(rng, bits, most_cared),
         rewrite: rewrite_over(rng, bits, 2),
-        ..entry(priority.min(3), in_port, out_port)
+        ..Entry::plain(priority.min(3), in_port, out_port)
     }
 }
 
 /// Groups differ in their upper bits alone.
-pub(super) fn random_edge(rng: &mut Rng, port: u16, bits: &[u32]) -> Edge {
+pub(super) fn random_edge<B: Bits>(rng: &mut Rng<B>, port: u16, bits: &[u32]) -> Edge<B> {
     Edge {
         group: rng.one_of([1, 1, 0x1001, 0x8001]),
         port,
@@ -196,7 +197,7 @@ pub(super) fn random_edge(rng: &mut Rng, port: u16, bits: &[u32]) -> Edge {
 }
 
 /// Up to this many links between these ports.
-fn random_links(rng: &mut Rng, ports: &[u16], number: usize) -> Vec<Link> {
+fn random_links<B: Bits>(rng: &mut Rng<B>, ports: &[u16], number: usize) -> Vec<Link> {
     let (mut from, mut to) = (ports.to_vec(), ports.to_vec());
     rng.shuffle(&mut from);
     rng.shuffle(&mut to);

@@ -1,14 +1,15 @@
 //! Switches with many ports and links between them.
 
 use super::parts::{address, both, field_rewrite, prefix_of, some_ports, tidy};
-use super::{finish, Rng};
-use crate::examples::entry;
+use super::source::Rng;
+use super::{ethernet, finish};
+use crate::bits::Bits;
 use crate::fabric::{Edge, Entry, Fabric, Link};
 use crate::set::Set;
 
 /// A few switches of many ports, linked both ways, edges at the rim, prefix
 /// routes and rewrites at every in-port.
-pub fn switches(rng: &mut Rng) -> Fabric {
+pub fn switches<B: Bits>(rng: &mut Rng<B>) -> Fabric<B> {
     let number = rng.between(2, 5);
     let width = rng.between(4, 8);
     let ports = some_ports(rng, number * width);
@@ -29,13 +30,19 @@ pub fn switches(rng: &mut Rng) -> Fabric {
     }
     tidy(&mut fabric);
     rng.shuffle(&mut fabric.entries);
+    ethernet::scatter(rng, &mut fabric);
     finish(rng, &mut fabric);
     fabric
 }
 
 /// Links both ways between the switches, each of which has this many ports;
 /// how many of its ports, the first ones, are taken by links.
-fn add_links(rng: &mut Rng, fabric: &mut Fabric, ports: &[u16], width: usize) -> Vec<usize> {
+fn add_links<B: Bits>(
+    rng: &mut Rng<B>,
+    fabric: &mut Fabric<B>,
+    ports: &[u16],
+    width: usize,
+) -> Vec<usize> {
     let number = ports.len() / width;
     let mut taken = vec![0; number];
     for one in 0..number {
@@ -55,7 +62,13 @@ fn add_links(rng: &mut Rng, fabric: &mut Fabric, ports: &[u16], width: usize) ->
 }
 
 /// Routes of one in-port to its switch's other ports.
-fn add_routes(rng: &mut Rng, fabric: &mut Fabric, own: &[u16], in_port: u16, switches: usize) {
+fn add_routes<B: Bits>(
+    rng: &mut Rng<B>,
+    fabric: &mut Fabric<B>,
+    own: &[u16],
+    in_port: u16,
+    switches: usize,
+) {
     let others = own.iter().copied().filter(|&port| port != in_port);
     let others: Vec<u16> = others.collect();
     for _ in 0..rng.between(1, 6) {
@@ -69,18 +82,18 @@ fn add_routes(rng: &mut Rng, fabric: &mut Fabric, own: &[u16], in_port: u16, swi
         fabric.entries.push(Entry {
             matching: route(rng, prefix_of(1, to, length)),
             rewrite: field_rewrite(rng),
-            ..entry(priority, in_port, out_port)
+            ..Entry::plain(priority, in_port, out_port)
         });
     }
 }
 
 /// Some routes are for one tp_dst, one dl_vlan or one switch's packets alone.
-fn route(rng: &mut Rng, prefix: Set) -> Set {
-    let (care, value) = match rng.below(8) {
-        0 => ([0, 0, 0xffff, 0], [0, 0, rng.one_of([22, 80, 81]), 0]),
-        1 => ([0, 0, 0, 0xffff_0000], [0, 0, 0, rng.one_of([1, 2]) << 16]),
-        2 => ([0xffff_0000, 0, 0, 0], [address(rng.below(3), 0), 0, 0, 0]),
-        _ => ([0; 4], [0; 4]),
+fn route<B: Bits>(rng: &mut Rng<B>, prefix: Set<B>) -> Set<B> {
+    let alone = match rng.below(8) {
+        0 => Set::of_word(2, 0xffff, rng.one_of([22, 80, 81])),
+        1 => Set::of_word(3, 0xffff_0000, rng.one_of([1, 2]) << 16),
+        2 => Set::of_word(0, 0xffff_0000, address(rng.below(3), 0)),
+        _ => Set::ALL_WILD,
     };
-    both(prefix, Set::of_words(care, value))
+    both(prefix, alone)
 }

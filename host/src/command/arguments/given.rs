@@ -5,8 +5,7 @@ use std::ffi::{OsStr, OsString};
 
 use super::super::manual::{is_a_setting, Command, Setting, LOST};
 use super::super::Failure;
-use super::{quoted, wrong};
-use crate::header::{Header, HeaderSet};
+use super::{quoted, wrong, WidestSet};
 use crate::query::Target;
 use crate::text::{parse_header, Wrong};
 
@@ -129,7 +128,7 @@ impl Given {
         }
     }
 
-    pub(super) fn header(&mut self) -> Result<Header, Failure> {
+    pub(super) fn header(&mut self) -> Result<WidestSet, Failure> {
         let word = self.next()?;
         let header = parse_header(&word.to_string_lossy());
         header.map_err(|error| in_a_word("header", &error))
@@ -145,7 +144,7 @@ impl Given {
             .transpose()
     }
 
-    pub(super) fn set(&self, name: &str) -> Result<Option<HeaderSet>, Failure> {
+    pub(super) fn set(&self, name: &str) -> Result<Option<WidestSet>, Failure> {
         let set = self
             .value(name)
             .map(|value| value.to_string_lossy().parse());

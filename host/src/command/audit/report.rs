@@ -11,7 +11,11 @@ use super::super::{ties, Output};
 use super::{Row, Senders};
 use crate::verdict::Verdict;
 
-pub(super) fn in_words(inquiry: &Inquiry, rows: &[Row], out: Output) -> io::Result<()> {
+pub(super) fn in_words<const N: usize>(
+    inquiry: &Inquiry<N>,
+    rows: &[Row<N>],
+    out: Output,
+) -> io::Result<()> {
     let reached = rows.iter().filter(|row| row.is_reached()).count();
     let refused = rows.iter().filter(|row| row.judged.is_err()).count();
     let isolated = rows.len() - reached - refused;
@@ -49,7 +53,7 @@ const HEADING: [&str; 6] = [
     "own from",
 ];
 
-fn cells(loaded: &Loaded, row: &Row) -> [String; 6] {
+fn cells<const N: usize>(loaded: &Loaded<N>, row: &Row<N>) -> [String; 6] {
     let verdict = row.judged.as_ref().map(|judged| &judged.verdict);
     let (name, units) = match verdict {
         Ok(Verdict::Isolated { units }) => ("isolated", units.to_string()),
@@ -76,7 +80,11 @@ fn cells(loaded: &Loaded, row: &Row) -> [String; 6] {
     ]
 }
 
-pub(super) fn in_json(inquiry: &Inquiry, rows: &[Row], out: Output) -> io::Result<()> {
+pub(super) fn in_json<const N: usize>(
+    inquiry: &Inquiry<N>,
+    rows: &[Row<N>],
+    out: Output,
+) -> io::Result<()> {
     let mut members = inquiry.in_json();
     members.extend([
         ("targets", json::list(rows.iter().map(row_in_json))),
@@ -86,7 +94,7 @@ pub(super) fn in_json(inquiry: &Inquiry, rows: &[Row], out: Output) -> io::Resul
 }
 
 /// A row's verdict is as that of one target.
-fn row_in_json(row: &Row) -> Json {
+fn row_in_json<const N: usize>(row: &Row<N>) -> Json {
     let mut members = vec![
         ("target", json::number(row.target.port)),
         ("group", json::number(row.target.group)),

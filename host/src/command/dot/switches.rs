@@ -13,7 +13,7 @@ pub(super) struct Switch {
 }
 
 /// Every port of the fabric is on one of them.
-pub(super) fn switches(fabric: &Fabric, names: &Names) -> Vec<Switch> {
+pub(super) fn switches<const N: usize>(fabric: &Fabric<N>, names: &Names) -> Vec<Switch> {
     let mut joined = Joined::default();
     for port in ports(fabric) {
         joined.first_of(port);
@@ -39,7 +39,7 @@ pub(super) fn switches(fabric: &Fabric, names: &Names) -> Vec<Switch> {
 }
 
 /// Every port that a record has, some more than once.
-fn ports(fabric: &Fabric) -> impl Iterator<Item = u16> + '_ {
+fn ports<const N: usize>(fabric: &Fabric<N>) -> impl Iterator<Item = u16> + '_ {
     let edges = fabric.edges.iter().map(|edge| edge.port);
     let links = fabric.links.iter().flat_map(|link| [link.from, link.to]);
     let entries = fabric.entries.iter();

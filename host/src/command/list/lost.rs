@@ -26,7 +26,11 @@ pub(super) const WITHIN: &str =
     "within: where nw_src was copied over nw_dst, only headers of the set in which both have the \
      same";
 
-pub(super) fn row(loaded: &Loaded, equals: &Equals, find: &Find) -> [String; 7] {
+pub(super) fn row<const N: usize>(
+    loaded: &Loaded<N>,
+    equals: &Equals<N>,
+    find: &Find<N>,
+) -> [String; 7] {
     let edge = loaded.fabric.edge(find.port);
     let entries = match find.hops {
         0 => AT_ONCE.into(),
@@ -47,7 +51,7 @@ pub(super) fn row(loaded: &Loaded, equals: &Equals, find: &Find) -> [String; 7] 
     ]
 }
 
-fn then(miss: &Miss) -> String {
+fn then<const N: usize>(miss: &Miss<N>) -> String {
     match miss.exact {
         true => miss.set.to_string(),
         false => format!("within {}", miss.set),
@@ -55,12 +59,16 @@ fn then(miss: &Miss) -> String {
 }
 
 /// Whether the set that is told for this find then has other headers too.
-pub(super) fn has_others(loaded: &Loaded, find: &Find) -> bool {
+pub(super) fn has_others<const N: usize>(loaded: &Loaded<N>, find: &Find<N>) -> bool {
     let miss = loaded.fabric.miss(find);
     miss.is_some_and(|miss| !miss.exact)
 }
 
-pub(super) fn in_json(loaded: &Loaded, equals: &Equals, find: &Find) -> Json {
+pub(super) fn in_json<const N: usize>(
+    loaded: &Loaded<N>,
+    equals: &Equals<N>,
+    find: &Find<N>,
+) -> Json {
     let mut members = vec![("port", json::number(find.port))];
     if let Some(edge) = loaded.fabric.edge(find.port) {
         members.push(("group", json::number(edge.group)));

@@ -54,6 +54,7 @@ const JSON: Setting = Setting {
 };
 
 const DONE: &[(u8, &str)] = &[(0, "done")];
+const WRITTEN: &[(u8, &str)] = &[(0, "the whole file is written")];
 
 pub(super) const ALL: &[Command] = &[
     Command {
@@ -63,8 +64,8 @@ pub(super) const ALL: &[Command] = &[
         summary: "is TARGET isolated? if not, a packet that gets there and its way",
         about: &[
             "Says 'isolated', or 'reached' with a foreign packet that gets out at TARGET and \
-             its way hop by hop. 'isolated:' begins the answer only if every IPv4 header and \
-             16 hops were asked about; else it begins 'isolated, but only'.",
+             its way hop by hop. 'isolated:' begins the answer only if every header and 16 \
+             hops were asked about; else it begins 'isolated, but only'.",
             "Where other entries of the same priority might take the packet too, the way shown \
              is one choice, and those entries stand beside the one that takes it. Where an entry \
              copies or swaps addresses, what the header becomes stands below it.",
@@ -87,7 +88,8 @@ pub(super) const ALL: &[Command] = &[
             "Asks for the verdict on TARGET, for every header and 16 hops, and takes no \
              option that would ask for less. If TARGET is isolated it prints one line, \
              'isolated: port TARGET, every IPv4 header, 16 hops, sha256 DIGEST', with the \
-             digest of the file that it read.",
+             digest of the file that it read. Of a fabric of version 2 it has 'every Ethernet \
+             and IPv4 header' there.",
             "Status 0 is for that line alone: 'mwishovala gate --help' prints this with status 2.",
         ],
         statuses: &[
@@ -184,8 +186,9 @@ pub(super) const ALL: &[Command] = &[
         settings: &[],
         summary: "the fabric as text",
         about: &[
-            "pack makes the same file of it again. A fabric of OpenFlow 1.3 begins with the line \
-             'openflow 1.3'. Ties that matter, as in an audit, stand at the end as remarks.",
+            "pack makes the same file of it again. A fabric of version 2 begins with the line \
+             'version 2', one of OpenFlow 1.3 with the line 'openflow 1.3'. Ties that matter, as \
+             in an audit, stand at the end as remarks.",
         ],
         statuses: DONE,
     },
@@ -206,7 +209,27 @@ pub(super) const ALL: &[Command] = &[
         settings: &[],
         summary: "text to a fabric file",
         about: &["FABRIC is written whole or not at all; - is standard output."],
-        statuses: &[(0, "the whole file is written")],
+        statuses: WRITTEN,
+    },
+    Command {
+        name: "widen",
+        operands: &[
+            FABRIC,
+            Operand {
+                name: "OUT",
+                what: "a fabric file to write",
+                ..FABRIC
+            },
+        ],
+        settings: &[],
+        summary: "FABRIC of version 1 as OUT of version 2",
+        about: &[
+            "OUT has Ethernet's fields too: wild in every set, and not rewritten. All else is as \
+             in FABRIC, and so are the answers; names are kept beside OUT as they are beside \
+             FABRIC. A fabric of version 2, or with more than 400 entries, is refused.",
+            "OUT is written whole or not at all; - is standard output.",
+        ],
+        statuses: WRITTEN,
     },
     Command {
         name: "dot",

@@ -9,11 +9,11 @@ pub(super) struct Topic {
 pub(super) const ARGUMENTS: Topic = Topic {
     title: "Arguments",
     text: "\
-FABRIC is a fabric file, TEXT a text; - is standard input, and for pack's FABRIC
-standard output. TARGET and START are edge ports, by their numbers; list also
-takes 'lost' as TARGET. A packet is foreign if it starts in another group than
-the target's, or outside what its own edge port admits. Options may stand
-anywhere after the command; -- ends them.
+FABRIC is a fabric file of version 1 or 2, TEXT a text; - is standard input, and
+for what pack and widen write standard output. TARGET and START are edge ports,
+by their numbers; list also takes 'lost' as TARGET. A packet is foreign if it
+starts in another group than the target's, or outside what its own edge port
+admits. Options may stand anywhere after the command; -- ends them.
 ",
 };
 
@@ -21,12 +21,14 @@ anywhere after the command; -- ends them.
 pub(super) const COVERED: Topic = Topic {
     title: "What is covered",
     text: "\
-Answers are about IPv4 headers: nw_src, nw_dst, tp_src, tp_dst, dl_vlan, nw_tos
-and nw_proto. ARP, IPv6 and other frames are not told apart in version 1 of the
-file: 'isolated' says nothing of them. It holds for packets that make at most
-the hop limit's hops, and of the fabric that the file says. Where entries of the
-same priority match, a switch may choose any of them, at each hop anew:
-'isolated' holds under every choice, 'reached' shows one.
+Of a fabric of version 1 answers are about IPv4 headers: nw_src, nw_dst, tp_src,
+tp_dst, dl_vlan, nw_tos and nw_proto. ARP, IPv6 and other frames are not told
+apart: 'isolated' says nothing of them. Version 2 has dl_src, dl_dst, dl_type
+and dl_vlan_pcp too, and 'isolated' is about frames of every type, by what a
+switch of OpenFlow 1.0 reads: nothing of IPv6's own header. It holds for packets
+that make at most the hop limit's hops, and of the fabric that the file says.
+Where entries of the same priority match, a switch may choose any of them, at
+each hop anew: 'isolated' holds under every choice, 'reached' shows one.
 ",
 };
 
@@ -34,9 +36,12 @@ pub(super) const SETS: Topic = Topic {
     title: "Header sets",
     text: "\
 SET is 'any', or fields with commas between them: nw_dst=10.0.0.2,nw_proto=tcp.
-The fields are nw_src, nw_dst, tp_src, tp_dst, dl_vlan, nw_tos, nw_proto.
-  addresses  10.0.0.2  10.0.0.0/24  10.0.0.0/255.0.0.255  0x0a000000/0xff000000
-  numbers    80   0x50   0x50/0xfff0 (value/mask)   nw_proto also tcp, udp, icmp
+The fields are nw_src, nw_dst, tp_src, tp_dst, dl_vlan, nw_tos, nw_proto and, of
+version 2 alone, dl_src, dl_dst, dl_type, dl_vlan_pcp.
+  nw_src, nw_dst  10.0.0.2  10.0.0.0/24  10.0.0.0/255.0.0.255
+  dl_src, dl_dst  02:00:00:00:00:01  02:00:00:00:00:00/ff:ff:ff:00:00:00
+  others          80  0x50  0x50/0xfff0 (value/mask, of any field)
+  also            nw_proto=tcp, udp, icmp  dl_type=ip, arp, ipv6
 HEADER is the same without masks; a field that isn't named is 0.
 ",
 };
@@ -55,13 +60,14 @@ A text has a line for each edge, link and entry, and # before a remark:
 Behind its match an entry may have copy, which copies nw_src over nw_dst, or
 swap, which swaps them, and then set, which writes fields: in this order.
 A line 'openflow 1.3' says that a packet which no entry takes is dropped; with
-'openflow 1.0', or without such a line, it is lost. It stands at most once, and
-before every edge, link and entry.
+'openflow 1.0', or without such a line, it is lost. A line 'version 2' says that
+headers have Ethernet's fields too; with 'version 1', or without such a line,
+they don't. Each stands at most once, and before every edge, link and entry.
 A switch reads tp_src and tp_dst only beside nw_proto. Of the entries at an in-
 port that match, one of the highest priority takes the packet: any, if there are
 several, wherever they stand. Ports are 1 to 4095. At most 64 edges, 256 links,
-512 entries, 64 of them at one in-port. Names are said in answers; pack keeps
-them beside the file, in FABRIC.names.
+512 entries (400 in version 2), 64 of them at one in-port. Names are said in
+answers; pack keeps them beside the file, in FABRIC.names.
 ",
 };
 

@@ -4,19 +4,12 @@ use Prim.Native.Nat.{ℕ}
 use Rattle.backtrace.proofs.push.Reads as push-reads
 use Rattle.entries.proofs.entry_at.Reads as entry-at-reads
 use Rattle.entries.proofs.keeps.Reads as keeps-reads
-use Rattle.entries.proofs.match_at.Reads as match-at-reads
 use Rattle.entries.proofs.met.Reads as met-reads
 use Rattle.entries.proofs.met_before.Reads as met-before-reads
 use Rattle.entries.proofs.unwritten.Reads as unwritten-reads
 use Rattle.events.proofs.asked.Reads as asked-reads
 use Rattle.events.proofs.found.Reads as found-reads
 use Rattle.events.proofs.unit.Reads as unit-reads
-use Rattle.headers.proofs.HeaderSet.free.Reads as free-reads
-use Rattle.headers.proofs.HeaderSet.like.Reads as like-reads
-use Rattle.headers.proofs.HeaderSet.unlike.Reads as unlike-reads
-use Rattle.headers.proofs.first_bit.Reads as first-bit-reads
-use Rattle.headers.proofs.none_set.Reads as none-set-reads
-use Rattle.headers.proofs.outside.Reads as outside-reads
 use Rattle.index.proofs.first_in.Reads as first-in-reads
 use Rattle.index.proofs.first_out.Reads as first-out-reads
 use Rattle.index.proofs.next_in.Reads as next-in-reads
@@ -26,6 +19,11 @@ use Rattle.model.proofs.least_above.Reads as least-above-reads
 use Rattle.records.proofs.in_port.Reads as in-port-reads
 use Rattle.records.proofs.priority.Reads as priority-reads
 use Rattle.trials.proofs.next_met.Reads as next-met-reads
+use Rattle.carving.proofs.first_cut.Reads as first-cut-reads
+use Rattle.carving.proofs.is_done.Reads as is-done-reads
+use Rattle.carving.proofs.is_last.Reads as is-last-reads
+use Rattle.carving.proofs.next_cut.Reads as next-cut-reads
+use Rattle.carving.proofs.part.Reads as part-reads
 use Rattle.backtrace.proofs.carve.Reads as carve
 use Rattle.backtrace.proofs.descend.Reads as descend
 use Rattle.backtrace.proofs.stop.Reads as stop
@@ -38,26 +36,24 @@ abbrev pub carve-claims : ℕ → carve-lts.Claims
 carve-claims t = (
   asked-reads.Asked,
   asked-reads.Learnt,
-  match-at-reads.Asked,
-  match-at-reads.Learnt,
+  entry-at-reads.Asked,
+  entry-at-reads.Learnt,
   next-in-reads.Asked,
   next-in-reads.Learnt,
-  free-reads.Asked,
-  free-reads.Learnt,
-  none-set-reads.Asked,
-  none-set-reads.Learnt,
-  first-bit-reads.Asked,
-  first-bit-reads.Learnt,
-  unlike-reads.Asked,
-  unlike-reads.Learnt,
-  outside-reads.Asked,
-  outside-reads.Learnt,
+  first-cut-reads.Asked,
+  first-cut-reads.Learnt,
+  is-done-reads.Asked,
+  is-done-reads.Learnt,
+  part-reads.Asked,
+  part-reads.Learnt,
+  is-last-reads.Asked,
+  is-last-reads.Learnt,
   next-met-reads.Asked,
   next-met-reads.Learnt,
   descend-below t,
   descend.Post,
-  like-reads.Asked,
-  like-reads.Learnt,
+  next-cut-reads.Asked,
+  next-cut-reads.Learnt,
 )
 
 abbrev pub descend-claims : ℕ → descend-lts.Claims
@@ -86,6 +82,10 @@ stop-claims t = (
   unwritten-reads.Learnt,
   next-out-reads.Asked,
   next-out-reads.Learnt,
+  keeps-reads.Asked,
+  keeps-reads.Learnt,
+  met-reads.Asked,
+  met-reads.Learnt,
   in-port-reads.Asked,
   in-port-reads.Learnt,
   priority-reads.Asked,
@@ -96,10 +96,6 @@ stop-claims t = (
   first-in-reads.Learnt,
   push-reads.Asked,
   push-reads.Learnt,
-  keeps-reads.Asked,
-  keeps-reads.Learnt,
-  met-reads.Asked,
-  met-reads.Learnt,
   next-met-reads.Asked,
   next-met-reads.Learnt,
   descend-below t,

@@ -1,14 +1,18 @@
 //! The deepest descents: 16 hops, and 62 or 63 beaters at each.
 
-use super::deep_ring::{ring_in, ring_out, START, SWITCHES, TARGET};
+use super::deep_ring::{ring_in, ring_out, Ring, START, TARGET};
 use super::{deny, one_group, rewrite, Benchmark};
-use crate::examples::{entry, link};
+use crate::examples::entry;
 use crate::fabric::{Entry, MOST_ENTRIES_PER_IN_PORT};
 use crate::set::{Rewrite, Set};
 
 /// Every beater meets the part and leaves one part of it: allows write the
 /// addresses, and each deny is for one address bit.
 pub fn every_beater_meets() -> Benchmark {
+    every_beater_meets_on(&Ring::OF_SEVEN)
+}
+
+pub(super) fn every_beater_meets_on(ring: &Ring) -> Benchmark {
     let descent = Descent {
         name: "every beater meets",
         allowed: Set::ALL_WILD,
@@ -18,7 +22,7 @@ pub fn every_beater_meets() -> Benchmark {
             value: 1 << (64 + number),
         },
     };
-    descent.benchmark()
+    descent.benchmark(ring)
 }
 
 /// No beater meets the part: denies are for one bit of nw_tos, allows for its
@@ -33,7 +37,7 @@ pub fn no_beater_meets() -> Benchmark {
             Set::of_words([0, 0, 0, 0xffff_0100], [0, 0, 0, tag | 0x0100])
         },
     };
-    descent.benchmark()
+    descent.benchmark(&Ring::OF_SEVEN)
 }
 
 /// What its allows match and write, and what its denies match, by number.
@@ -45,21 +49,21 @@ struct Descent {
 }
 
 impl Descent {
-    /// The deep ring without laps: at switch 2 a packet may leave or go on, by two
-    /// equals. So the finds have 2, 9 and 16 hops.
-    fn benchmark(&self) -> Benchmark {
+    /// The deep ring without laps: at one switch a packet may leave or go on, by two
+    /// equals. So of seven the finds have 2, 9 and 16 hops.
+    fn benchmark(&self, ring: &Ring) -> Benchmark {
         let mut fabric = one_group(START, TARGET);
         fabric.entries.extend(self.entries(START, &[ring_out(1)]));
-        for switch in 1..=SWITCHES {
-            let (on, next) = (ring_out(switch), ring_in(switch % SWITCHES + 1));
-            let out_ports = if switch == 2 {
+        for switch in 1..=ring.switches {
+            let on = ring_out(switch);
+            let out_ports = if switch == ring.exit {
                 &[TARGET, on][..]
             } else {
                 &[on]
             };
             let entries = self.entries(ring_in(switch), out_ports);
             fabric.entries.extend(entries);
-            fabric.links.push(link(on, next));
+            fabric.links.push(ring.link_from(switch));
         }
         Benchmark::all_wild(self.name, fabric, TARGET)
     }

@@ -8,33 +8,37 @@ use crate::random::Rng;
 use crate::set::Set;
 
 const SEED: u64 = 2;
-const EDGES: u16 = 10;
 const ALLOWS: usize = 30;
 const DENIES: usize = 20;
 /// Of the allows, and as many above them of the denies.
 const PRIORITIES: u16 = 100;
 
-/// 500 random entries at the ten edges of one switch, all of one group. At each
-/// edge there are thirty allows, and twenty denies that beat them all.
+/// 500 random entries at ten edges.
 pub fn random_denies() -> Benchmark {
+    random_denies_at(10, "random denies")
+}
+
+/// Random entries at so many edges of one switch, all of one group. At each edge there
+/// are thirty allows, and twenty denies that beat them all.
+pub(super) fn random_denies_at(edges: u16, name: &'static str) -> Benchmark {
     let rng = &mut Rng::new(SEED);
     let mut fabric = Fabric::default();
-    for port in 1..=EDGES {
+    for port in 1..=edges {
         fabric.edges.push(edge(1, port));
         fabric
             .entries
-            .extend((0..ALLOWS).map(|_| random_allow(rng, port)));
+            .extend((0..ALLOWS).map(|_| random_allow(rng, port, edges)));
         fabric
             .entries
             .extend((0..DENIES).map(|_| random_deny(rng, port)));
     }
     rng.shuffle(&mut fabric.entries);
-    Benchmark::all_wild("random denies", fabric, 1)
+    Benchmark::all_wild(name, fabric, 1)
 }
 
 /// To any other edge.
-fn random_allow(rng: &mut Rng, in_port: u16) -> Entry {
-    let out_port = (in_port - 1 + rng.between(1, usize::from(EDGES) - 1) as u16) % EDGES + 1;
+fn random_allow(rng: &mut Rng, in_port: u16, edges: u16) -> Entry {
+    let out_port = (in_port - 1 + rng.between(1, usize::from(edges) - 1) as u16) % edges + 1;
     let matching = wide_route(rng);
     let priority = rng.below(PRIORITIES.into()) as u16;
     Entry {

@@ -9,11 +9,15 @@ use crate::set::Set;
 
 const SEED: u64 = 32;
 const SWITCHES: u16 = 5;
-const ENTRIES_PER_IN_PORT: usize = 20;
 
-/// 500 random entries at five switches, each of which has an edge and a link to
-/// every other; all of one group. Some entries drop and some rewrite.
+/// 500 random entries, 20 at each in-port.
 pub fn random_transit() -> Benchmark {
+    random_transit_of(20, "random transit")
+}
+
+/// Random entries, so many at each in-port of five switches, each of which has an edge
+/// and a link to every other; all of one group. Some entries drop and some rewrite.
+pub(super) fn random_transit_of(at_in_port: usize, name: &'static str) -> Benchmark {
     let rng = &mut Rng::new(SEED);
     let mut fabric = Fabric::default();
     for switch in 0..SWITCHES {
@@ -24,18 +28,18 @@ pub fn random_transit() -> Benchmark {
         fabric
             .links
             .extend(others.map(|other| link(link_port(switch, other), link_port(other, switch))));
-        add_entries(rng, &mut fabric, &ports);
+        add_entries(rng, &mut fabric, &ports, at_in_port);
     }
     rng.shuffle(&mut fabric.entries);
-    Benchmark::all_wild("random transit", fabric, edge_port(0))
+    Benchmark::all_wild(name, fabric, edge_port(0))
 }
 
 /// Those of a switch with these ports.
-fn add_entries(rng: &mut Rng, fabric: &mut Fabric, ports: &[u16]) {
+fn add_entries(rng: &mut Rng, fabric: &mut Fabric, ports: &[u16], at_in_port: usize) {
     for &in_port in ports {
         fabric
             .entries
-            .extend((0..ENTRIES_PER_IN_PORT).map(|_| random_entry(rng, in_port, ports)));
+            .extend((0..at_in_port).map(|_| random_entry(rng, in_port, ports)));
     }
 }
 

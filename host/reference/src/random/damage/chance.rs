@@ -2,8 +2,9 @@
 
 use super::layout::File;
 use super::{Damage, Damaged};
+use crate::bits::Bits;
 use crate::file::{to_le_bytes, to_le_words};
-use crate::random::Rng;
+use crate::random::source::Rng;
 
 fn at_random(bytes: Vec<u8>) -> Damaged {
     let refusal = None;
@@ -12,13 +13,13 @@ fn at_random(bytes: Vec<u8>) -> Damaged {
 
 /// One of the start's bits above the count: that which chooses between OpenFlow 1.0
 /// and 1.3, or one without which it is no start of the one version.
-pub(super) fn start_flipped(bytes: &[u8], rng: &mut Rng) -> Damaged {
+pub(super) fn start_flipped<B: Bits>(bytes: &[u8], rng: &mut Rng<B>) -> Damaged {
     let mut words = to_le_words(bytes);
     words[0] ^= 1 << rng.between(16, 31);
     at_random(to_le_bytes(&words))
 }
 
-pub(super) fn flipped(bytes: &[u8], flips: u8, rng: &mut Rng) -> Damaged {
+pub(super) fn flipped<B: Bits>(bytes: &[u8], flips: u8, rng: &mut Rng<B>) -> Damaged {
     let mut bytes = bytes.to_vec();
     let place = rng.below(bytes.len());
     if let Some(byte) = bytes.get_mut(place) {
@@ -27,7 +28,7 @@ pub(super) fn flipped(bytes: &[u8], flips: u8, rng: &mut Rng) -> Damaged {
     at_random(bytes)
 }
 
-pub(super) fn words_changed(how: Damage, bytes: &[u8], rng: &mut Rng) -> Damaged {
+pub(super) fn words_changed<B: Bits>(how: Damage, bytes: &[u8], rng: &mut Rng<B>) -> Damaged {
     let mut words = to_le_words(bytes);
     let (one, other) = (rng.below(words.len()), rng.below(words.len()));
     match how {
@@ -37,7 +38,7 @@ pub(super) fn words_changed(how: Damage, bytes: &[u8], rng: &mut Rng) -> Damaged
     at_random(to_le_bytes(&words))
 }
 
-pub(super) fn record_changed(how: Damage, mut file: File, rng: &mut Rng) -> Damaged {
+pub(super) fn record_changed<B: Bits>(how: Damage, mut file: File, rng: &mut Rng<B>) -> Damaged {
     let record = rng.between(1, file.end());
     match how {
         Damage::RecordTwice => file.records.insert(record, file.records[record].clone()),

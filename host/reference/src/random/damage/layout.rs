@@ -1,15 +1,18 @@
 //! Damage to the file's length, start and layout: questions 1 to 3.
 
 use super::{refused, Damage, Damaged};
-use crate::fabric::Fabric;
+use crate::bits::Bits;
+use crate::fabric::{Fabric, OpenFlow};
 use crate::file::{
-    start_word, to_le_bytes, to_le_words, write, EDGE_WORDS, END, ENTRY, ENTRY_WORDS, LINK,
-    LINK_WORDS, MOST_BYTES,
+    edge_words, entry_words, start_of, to_le_bytes, to_le_words, write, END, ENTRY, LINK,
+    LINK_WORDS,
 };
-use crate::random::Rng;
+use crate::random::source::Rng;
 
 /// The start's bits with the file's word count.
 const COUNT: u32 = 0xffff;
+/// Those with its version.
+const VERSION: u32 = 0x7ff << 16;
 
 /// A file as its records, the start and the end among them.
 pub(super) struct File {
@@ -17,12 +20,12 @@ pub(super) struct File {
 }
 
 impl File {
-    pub(super) fn new(fabric: &Fabric) -> File {
+    pub(super) fn new<B: Bits>(fabric: &Fabric<B>) -> File {
         let words = to_le_words(&write(fabric));
         let mut records = vec![vec![words[0]]];
-        let edges = fabric.edges.iter().map(|_| EDGE_WORDS);
+        let edges = fabric.edges.iter().map(|_| edge_words::<B>());
         let links = fabric.links.iter().map(|_| LINK_WORDS);
-        let entries = fabric.entries.iter().map(|_| ENTRY_WORDS);
+        let entries = fabric.entries.iter().map(|_| entry_words::<B>());
         let mut place = 1;
         for length in edges.chain(links).chain(entries).chain([1]) {
             records.push(words[place..place + length].to_vec());
@@ -62,12 +65,12 @@ impl File {
     }
 }
 
-pub(super) fn wrong_length(how: Damage, file: File, rng: &mut Rng) -> Damaged {
+pub(super) fn wrong_length<B: Bits>(how: Damage, file: File, rng: &mut Rng<B>) -> Damaged {
     let mut words = file.words();
     if how == Damage::TooLong {
-        words.resize(rng.between(MOST_BYTES / 4 + 1, 16_400), END << 28);
+        words.resize(rng.between(B::MOST_BYTES / 4 + 1, 16_400), END << 28);
         if rng.once_in(2) {
-            words[0] = start_word(words.len());
+            words[0] = start_of(B::VERSION, OpenFlow::V1_0, words.len());
         }
         return refused(to_le_bytes(&words), 1, 0);
     }
@@ -82,9 +85,9 @@ pub(super) fn wrong_length(how: Damage, file: File, rng: &mut Rng) -> Damaged {
     refused(bytes, 1, 0)
 }
 
-pub(super) fn wrong_start(how: Damage, mut file: File, rng: &mut Rng) -> Damaged {
+pub(super) fn wrong_start<B: Bits>(how: Damage, mut file: File, rng: &mut Rng<B>) -> Damaged {
     let start = file.records[0][0];
-    let (count, version) = (start & COUNT, start >> 16 & 0x7ff);
+    let (count, version) = (start & COUNT, (start & VERSION) >> 16);
     match how {
         Damage::WrongCount => {
             let count = count ^ rng.between(1, 0xffff) as u32;
@@ -92,8 +95,9 @@ pub(super) fn wrong_start(how: Damage, mut file: File, rng: &mut Rng) -> Damaged
         }
         Damage::WrongVersion => {
             let version = version ^ rng.between(1, 0x7ff) as u32;
-            file.records[0][0] = start & 0xf800_ffff | version << 16;
+            file.records[0][0] = start & !VERSION | version << 16;
         }
+        Damage::MarkedAsVersion1 => file.records[0][0] = start & !VERSION | 1 << 16,
         Damage::NoStart => file.records[0][0] = start ^ (rng.between(1, 15) as u32) << 28,
         _ => {}
     }
@@ -103,12 +107,12 @@ pub(super) fn wrong_start(how: Damage, mut file: File, rng: &mut Rng) -> Damaged
         Damage::Padded => words.extend((0..rng.between(1, 20)).map(|_| END << 28)),
         _ => {}
     }
-    let too_long = words.len() > MOST_BYTES / 4;
+    let too_long = words.len() > B::MOST_BYTES / 4;
     let number = if too_long { 1 } else { 2 };
     refused(to_le_bytes(&words), number, 0)
 }
 
-pub(super) fn wrong_kind(how: Damage, mut file: File, rng: &mut Rng) -> Damaged {
+pub(super) fn wrong_kind<B: Bits>(how: Damage, mut file: File, rng: &mut Rng<B>) -> Damaged {
     let end = file.end();
     match how {
         Damage::UnknownKind => {
@@ -136,7 +140,7 @@ pub(super) fn wrong_kind(how: Damage, mut file: File, rng: &mut Rng) -> Damaged 
             // The last entry loses its last words, and the end is gone.
             file.records.pop();
             let place = file.place(end - 1);
-            file.records[end - 1].truncate(rng.between(1, ENTRY_WORDS - 1));
+            file.records[end - 1].truncate(rng.between(1, entry_words::<B>() - 1));
             file.refused(3, place)
         }
         _ => {
@@ -147,7 +151,7 @@ pub(super) fn wrong_kind(how: Damage, mut file: File, rng: &mut Rng) -> Damaged 
     }
 }
 
-pub(super) fn stray_zero_bit(how: Damage, mut file: File, rng: &mut Rng) -> Damaged {
+pub(super) fn stray_zero_bit<B: Bits>(how: Damage, mut file: File, rng: &mut Rng<B>) -> Damaged {
     let (kind, word, low, high) = match how {
         Damage::LinkZeroBits => (LINK, 0, 24, 27),
         Damage::EntryZeroBits => (ENTRY, 1, 12, 27),
@@ -160,7 +164,7 @@ pub(super) fn stray_zero_bit(how: Damage, mut file: File, rng: &mut Rng) -> Dama
 }
 
 /// 3 to 15, and at times zero bits below it that aren't zero.
-pub(super) fn wrong_transfer(how: Damage, mut file: File, rng: &mut Rng) -> Damaged {
+pub(super) fn wrong_transfer<B: Bits>(how: Damage, mut file: File, rng: &mut Rng<B>) -> Damaged {
     let record = *rng.pick(&file.of_kind(ENTRY)).unwrap_or(&0);
     let zero_bits = match how {
         Damage::TransferAndZeroBits => rng.between(1, 0xffff) as u32,
@@ -173,8 +177,8 @@ pub(super) fn wrong_transfer(how: Damage, mut file: File, rng: &mut Rng) -> Dama
     file.refused(3, place)
 }
 
-pub(super) fn misplaced_end(how: Damage, mut file: File, rng: &mut Rng) -> Damaged {
-    if file.words().len() > MOST_BYTES / 4 - ENTRY_WORDS {
+pub(super) fn misplaced_end<B: Bits>(how: Damage, mut file: File, rng: &mut Rng<B>) -> Damaged {
+    if file.words().len() > B::MOST_BYTES / 4 - entry_words::<B>() {
         file.records.remove(file.end() - 1);
     }
     let end = file.end();

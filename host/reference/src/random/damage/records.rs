@@ -1,27 +1,29 @@
 //! Damage to what a record says: questions 4 to 7.
 
 use super::{refused, unused_ports, Damage, Damaged};
-use crate::examples::{edge, entry};
-use crate::fabric::{
-    Entry, Fabric, Link, MOST_EDGES, MOST_ENTRIES, MOST_ENTRIES_PER_IN_PORT, MOST_LINKS,
-};
-use crate::file::{write, EDGE_WORDS, ENTRY_WORDS};
+use crate::bits::Bits;
+use crate::fabric::{Edge, Entry, Fabric, Link, MOST_EDGES, MOST_ENTRIES_PER_IN_PORT, MOST_LINKS};
+use crate::file::{edge_words, entry_words, write};
 use crate::random::parts::tidy;
-use crate::random::Rng;
+use crate::random::source::Rng;
 
-fn edge_place(edge: usize) -> usize {
-    1 + edge * EDGE_WORDS
+fn edge_place<B: Bits>(edge: usize) -> usize {
+    1 + edge * edge_words::<B>()
 }
 
-fn link_place(fabric: &Fabric, link: usize) -> usize {
-    edge_place(fabric.edges.len()) + link
+fn link_place<B: Bits>(fabric: &Fabric<B>, link: usize) -> usize {
+    edge_place::<B>(fabric.edges.len()) + link
 }
 
-fn entry_place(fabric: &Fabric, entry: usize) -> usize {
-    link_place(fabric, fabric.links.len()) + entry * ENTRY_WORDS
+fn entry_place<B: Bits>(fabric: &Fabric<B>, entry: usize) -> usize {
+    link_place(fabric, fabric.links.len()) + entry * entry_words::<B>()
 }
 
-pub(super) fn wrong_edge_port(how: Damage, mut fabric: Fabric, rng: &mut Rng) -> Damaged {
+pub(super) fn wrong_edge_port<B: Bits>(
+    how: Damage,
+    mut fabric: Fabric<B>,
+    rng: &mut Rng<B>,
+) -> Damaged {
     let edges = &mut fabric.edges;
     let any = rng.below(edges.len());
     let second = rng.between(1, edges.len() - 1);
@@ -34,10 +36,14 @@ pub(super) fn wrong_edge_port(how: Damage, mut fabric: Fabric, rng: &mut Rng) ->
         Damage::EdgesFalling => edges.swap(second - 1, second),
         _ => edges[second].port = edges[second - 1].port,
     }
-    refused(write(&fabric), 4, edge_place(wrong))
+    refused(write(&fabric), 4, edge_place::<B>(wrong))
 }
 
-pub(super) fn wrong_link_port(how: Damage, mut fabric: Fabric, rng: &mut Rng) -> Damaged {
+pub(super) fn wrong_link_port<B: Bits>(
+    how: Damage,
+    mut fabric: Fabric<B>,
+    rng: &mut Rng<B>,
+) -> Damaged {
     let links = &mut fabric.links;
     let any = rng.below(links.len());
     let second = rng.between(1, links.len() - 1);
@@ -55,7 +61,11 @@ pub(super) fn wrong_link_port(how: Damage, mut fabric: Fabric, rng: &mut Rng) ->
     refused(write(&fabric), 4, link_place(&fabric, wrong))
 }
 
-pub(super) fn wrong_entry_port(how: Damage, mut fabric: Fabric, rng: &mut Rng) -> Damaged {
+pub(super) fn wrong_entry_port<B: Bits>(
+    how: Damage,
+    mut fabric: Fabric<B>,
+    rng: &mut Rng<B>,
+) -> Damaged {
     let number = rng.below(fabric.entries.len());
     let entry = &mut fabric.entries[number];
     match how {
@@ -65,34 +75,59 @@ pub(super) fn wrong_entry_port(how: Damage, mut fabric: Fabric, rng: &mut Rng) -
     refused(write(&fabric), 4, entry_place(&fabric, number))
 }
 
-pub(super) fn value_outside(how: Damage, mut fabric: Fabric, rng: &mut Rng) -> Damaged {
+pub(super) fn value_outside<B: Bits>(how: Damage, fabric: Fabric<B>, rng: &mut Rng<B>) -> Damaged {
+    improper(how, fabric, rng, |rng, care, value| {
+        let bit = B::bit(rng.below(32 * B::WORDS) as u32);
+        (care & !bit, value | bit)
+    })
+}
+
+/// One of the "bits that must be zero in care and mask" isn't; its value is either.
+pub(super) fn zero_bit_cared_for<B: Bits>(
+    how: Damage,
+    fabric: Fabric<B>,
+    rng: &mut Rng<B>,
+) -> Damaged {
+    improper(how, fabric, rng, |rng, care, value| {
+        let bit = rng.one_of([0, 1, 2, 3, 4, 5, 6, 7].map(B::bit)) & B::ZERO_BITS;
+        (care | bit, value | rng.one_of([bit, B::NONE]))
+    })
+}
+
+/// Spoils care and value of an admitted set, of a match or of a rewrite.
+fn improper<B: Bits>(
+    how: Damage,
+    mut fabric: Fabric<B>,
+    rng: &mut Rng<B>,
+    spoil: impl Fn(&mut Rng<B>, B, B) -> (B, B),
+) -> Damaged {
     let edge = rng.below(fabric.edges.len());
     let entry = rng.below(fabric.entries.len());
-    let (mask, value) = match how {
-        Damage::EdgeValueOutside => {
+    let (place, care, value) = match how {
+        Damage::EdgeValueOutside | Damage::EdgeZeroBits => {
             let set = &mut fabric.edges[edge].admitted;
-            (&mut set.care, &mut set.value)
+            (edge_place::<B>(edge), &mut set.care, &mut set.value)
         }
-        Damage::MatchValueOutside => {
+        Damage::MatchValueOutside | Damage::MatchZeroBits => {
+            let place = entry_place(&fabric, entry);
             let set = &mut fabric.entries[entry].matching;
-            (&mut set.care, &mut set.value)
+            (place, &mut set.care, &mut set.value)
         }
         _ => {
+            let place = entry_place(&fabric, entry);
             let rewrite = &mut fabric.entries[entry].rewrite;
-            (&mut rewrite.mask, &mut rewrite.value)
+            (place, &mut rewrite.mask, &mut rewrite.value)
         }
     };
-    let bit = 1 << rng.below(128);
-    *mask &= !bit;
-    *value |= bit;
-    let place = match how {
-        Damage::EdgeValueOutside => edge_place(edge),
-        _ => entry_place(&fabric, entry),
-    };
+    (*care, *value) = spoil(rng, *care, *value);
     refused(write(&fabric), 5, place)
 }
 
-pub(super) fn link_misplaced(how: Damage, mut fabric: Fabric, rng: &mut Rng) -> Damaged {
+pub(super) fn link_misplaced<B: Bits>(
+    how: Damage,
+    mut fabric: Fabric<B>,
+    rng: &mut Rng<B>,
+) -> Damaged {
     let edge_port = fabric.edges[rng.below(fabric.edges.len())].port;
     let second = rng.between(1, fabric.links.len() - 1);
     let first = fabric.links[rng.below(second)];
@@ -120,16 +155,20 @@ pub(super) fn link_misplaced(how: Damage, mut fabric: Fabric, rng: &mut Rng) -> 
     }
 }
 
-pub(super) fn too_many_edges_or_links(how: Damage, mut fabric: Fabric, rng: &mut Rng) -> Damaged {
+pub(super) fn too_many_edges_or_links<B: Bits>(
+    how: Damage,
+    mut fabric: Fabric<B>,
+    rng: &mut Rng<B>,
+) -> Damaged {
     let mut ports = unused_ports(&fabric, rng).into_iter();
     let mut port = || ports.next().unwrap_or(1);
-    fabric.entries.truncate(MOST_ENTRIES - 1);
+    fabric.entries.truncate(B::MOST_ENTRIES - 1);
     let place = match how {
         Damage::EdgeTooMany => {
             while fabric.edges.len() <= MOST_EDGES {
-                fabric.edges.push(edge(1, port()));
+                fabric.edges.push(Edge::open(1, port()));
             }
-            edge_place(MOST_EDGES)
+            edge_place::<B>(MOST_EDGES)
         }
         _ => {
             while fabric.links.len() <= MOST_LINKS {
@@ -143,22 +182,26 @@ pub(super) fn too_many_edges_or_links(how: Damage, mut fabric: Fabric, rng: &mut
     refused(write(&fabric), 7, place)
 }
 
-pub(super) fn too_many_entries(how: Damage, mut fabric: Fabric, rng: &mut Rng) -> Damaged {
+pub(super) fn too_many_entries<B: Bits>(
+    how: Damage,
+    mut fabric: Fabric<B>,
+    rng: &mut Rng<B>,
+) -> Damaged {
     if how == Damage::EntryTooMany {
         let ports = unused_ports(&fabric, rng).into_iter();
-        let lacking = MOST_ENTRIES + 1 - fabric.entries.len();
+        let lacking = B::MOST_ENTRIES + 1 - fabric.entries.len();
         fabric
             .entries
-            .extend(ports.take(lacking).map(|port| entry(1, port, 0)));
+            .extend(ports.take(lacking).map(|port| Entry::plain(1, port, 0)));
         // Room for one entry more than the largest file has.
-        fabric.links.truncate(MOST_LINKS - ENTRY_WORDS);
-        let place = entry_place(&fabric, MOST_ENTRIES);
+        fabric.links.truncate(MOST_LINKS - entry_words::<B>());
+        let place = entry_place(&fabric, B::MOST_ENTRIES);
         return refused(write(&fabric), 7, place);
     }
     let most = MOST_ENTRIES_PER_IN_PORT;
-    fabric.entries.truncate(MOST_ENTRIES - most - 1);
+    fabric.entries.truncate(B::MOST_ENTRIES - most - 1);
     let entry = fabric.entries[rng.below(fabric.entries.len())];
-    let here = |other: &Entry| other.in_port == entry.in_port;
+    let here = |other: &Entry<B>| other.in_port == entry.in_port;
     while fabric.entries.iter().filter(|&other| here(other)).count() <= most {
         let to = rng.below(fabric.entries.len() + 1);
         fabric.entries.insert(to, entry);

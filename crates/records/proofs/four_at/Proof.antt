@@ -1,0 +1,45 @@
+-- Four words that were read are four words of the file.
+use Rattle.records.proofs.Words as laws
+use borrow.Author.Needs.{needs}
+use Rattle.records.proofs.four_at.Statement.{statement}
+use Rattle.records.proofs.four_at.Tie as tie
+
+word-requires : tie.Need-word-requires
+word-requires c κs = search needs
+
+add-word : tie.Need-add-word
+add-word c = search needs
+
+word-requires-2 : tie.Need-word-requires-2
+word-requires-2 c κs = search needs
+
+add-word-2 : tie.Need-add-word-2
+add-word-2 c = search needs
+
+word-requires-3 : tie.Need-word-requires-3
+word-requires-3 c κs = search needs
+
+add-word-3 : tie.Need-add-word-3
+add-word-3 c = search needs
+
+word-requires-4 : tie.Need-word-requires-4
+word-requires-4 c κs = search needs
+
+returns : tie.Need-returns
+returns c =
+    let third = c .before in
+    let second = third .before in
+    laws.four _ _ _ _ _ _ (second .before .word .ensures) (second .word2 .ensures) (third .word3 .ensures) (c .word4 .ensures)
+
+pub four-at-spec : {M : Type 1} → statement M
+four-at-spec =
+    tie.close
+    (tie.spec
+    word-requires
+    add-word
+    word-requires-2
+    add-word-2
+    word-requires-3
+    add-word-3
+    word-requires-4
+    returns)

@@ -1,0 +1,4 @@
+pub mod Halves
+pub mod Arrays
+pub mod Answers
+pub mod Entries
