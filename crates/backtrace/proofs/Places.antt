@@ -51,7 +51,8 @@ module _ {f : List ℕ} (a : AFabric f) (x : ℕ) where
       go false e l = absurd (omega (arith, link-low))
 
   -- a part that came to stand there is a part at the in-port
-  pub place-events : (hops : ℕ) (path : List ℕ) (t : Set) → eventsAt f (placeAt f x) t hops path ≡ atInPort (wideIn f) (stop (wideIn f) hops) x path t
+  pub place-events : (hops : ℕ) (path : List ℕ) (t : Set)
+      → eventsAt f (placeAt f x) t hops path ≡ atInPort (wideIn f) (stop (wideIn f) hops) x path t
   unfolding eventsAt placeAt atInPort fabricIn fabricOf
   place-events hops path t = go (ltb 0 edge) refl
     where
@@ -73,7 +74,8 @@ module _ {f : List ℕ} (a : AFabric f) (x : ℕ) where
           (lt-leb 4096 (fabricIn f .linkFrom x) link-low)
 
 -- at a port that is no edge's place a stop follows
-pub port-events : (f : List ℕ) (y hops : ℕ) (path : List ℕ) (t : Set) → y < 4096 → (y ≡ 0 → ⊥) → eventsAt f y t hops path ≡ stop (wideIn f) hops y t path
+pub port-events : (f : List ℕ) (y hops : ℕ) (path : List ℕ) (t : Set) → y < 4096 → (y ≡ 0 → ⊥)
+    → eventsAt f y t hops path ≡ stop (wideIn f) hops y t path
 unfolding eventsAt
 port-events f y hops path t l nz = rw (lt-leb 4096 y l) (go y nz)
   where

@@ -60,7 +60,8 @@ module _ (f : List ℕ) (q : Query) (area : List ℕ) where
     unfolding VerdictPlayed
     by-end a b c = go (leb (unitsIn v) (q .budget)) v refl refl ended
       where
-        go : (w : Bool) (x : Verdict) → leb (unitsIn v) (q .budget) ≡ w → v ≡ x → VerdictPlayed n (begin area) (cond w (some x) none) judgedPass → C
+        go : (w : Bool) (x : Verdict) → leb (unitsIn v) (q .budget) ≡ w → v ≡ x
+            → VerdictPlayed n (begin area) (cond w (some x) none) judgedPass → C
         go false x d e r = a d (r .0) (r .1)
         go true (isolated u) d e r = b u e d (r .0) (r .1) (r .2)
         go true (reached u x path h) d e r = c u x path h e d (r .0) (r .1)
@@ -135,7 +136,8 @@ module _ (f : List ℕ) (q : Query) (area : List ℕ) where
           ∙ ap (λ (y : Bool). pick y 0 12) r
 
       pub no-room : length area < 4 * answerWords n → outcome 12 area ≡ answer
-      no-room short = no-before 12 (sym (room-asked false (lt-leb (4 * answerWords n) (length area) short))) (λ y. let n : ⊥ = omega arith in n)
+      no-room short =
+          no-before 12 (sym (room-asked false (lt-leb (4 * answerWords n) (length area) short))) (λ y. let n : ⊥ = omega arith in n)
 
       pub all-asked : 4 * answerWords n ≤ length area → firstNo before-trace ≡ 0
       all-asked enough = room-asked true (le-leb (4 * answerWords n) (length area) enough)
@@ -154,7 +156,8 @@ module _ (f : List ℕ) (q : Query) (area : List ℕ) where
     written : (judgedPass .status ≡ 1 → ⊥) → (last : List ℕ) → last ≡ writtenAt 0 (verdictWords n v) area
         → outcome (answerWords n * 256) last ≡ answer
     written one last l =
-        yes-answered _ (answerWords n * 256) (verdictWords n v) area last (then-after ∙ ap (λ (b : Bool). pick b 0 13) (in-budget one)) (ap (λ (m : ℕ). m * 256) (sym verdict-long)) l
+        yes-answered _ (answerWords n * 256) (verdictWords n v) area last
+        (then-after ∙ ap (λ (b : Bool). pick b 0 13) (in-budget one)) (ap (λ (m : ℕ). m * 256) (sym verdict-long)) l
 
     pub answered-reached : judgedPass .status ≡ 2 → outcome (answerWords n * 256) (judgedPass .world .area) ≡ answer
     answered-reached s = written (λ e. omega (arith, s, e)) _ (verdict-reached s)

@@ -106,7 +106,8 @@ units-append (find d ∷ a) b = units-append a b
 abbrev Few : ℕ → List Event → Type 0
 Few k es = findWordsOf es ≤ k + 8481 * units es
 
-few-parts : (n : ℕ) (g : Set → List Event) → ((s : Set) → Sized n s → Few 33 (g s)) → (l : List Set) → Each (Sized n) l → Few (33 * length l) (flatMap g l)
+few-parts : (n : ℕ) (g : Set → List Event) → ((s : Set) → Sized n s → Few 33 (g s))
+    → (l : List Set) → Each (Sized n) l → Few (33 * length l) (flatMap g l)
 unfolding flatMap Each finds listWords units
 few-parts n g few [] e = omega arith
 few-parts n g few (s ∷ l) e =
@@ -118,7 +119,8 @@ few-entries g few [] = omega arith
 few-entries g few (e ∷ l) = omega (arith, few e, few-entries g few l, words-append (g e) (flatMap g l), units-append (g e) (flatMap g l))
 
 module _ (F : Fabric) (eight : F .words ≤ 8) where
-  few-carved : (next : Set → List Event) → ((s : Set) → Sized (F .words) s → Few 33 (next s)) → (bs : List ℕ) (p : Set) → Sized (F .words) p → Few 33 (carved F next bs p)
+  few-carved : (next : Set → List Event) → ((s : Set) → Sized (F .words) s → Few 33 (next s))
+      → (bs : List ℕ) (p : Set) → Sized (F .words) p → Few 33 (carved F next bs p)
   unfolding carved finds units
   few-carved next few [] p s = few p s
   few-carved next few (b ∷ bs) p s =
@@ -130,7 +132,8 @@ module _ (F : Fabric) (eight : F .words ≤ 8) where
         carve-few (F .words) p (F .entry b .matches),
       )
 
-  few-found : (x : ℕ) (path : List ℕ) (p : Set) → length path ≤ 16 → Sized (F .words) p → Few 33 (find (record { port = x; path = path; set = p }) ∷ [])
+  few-found : (x : ℕ) (path : List ℕ) (p : Set) → length path ≤ 16 → Sized (F .words) p
+      → Few 33 (find (record { port = x; path = path; set = p }) ∷ [])
   unfolding finds listWords findWords units
   few-found x path p short s =
       let entries : List ℕ = map (λ (e : ℕ). 7 * 2 ^ 28 + e) path in
@@ -293,7 +296,8 @@ module _ (f : List ℕ) (q : Query) (area : List ℕ) where
     then-asked : (within room : Bool) → withinBudget f q ≡ within → leb (4 * length ws) (length area) ≡ room
         → number ≡ pick within (pick room 0 12) 13
     then-asked within room w r =
-        first-no-more asked-first asked-then (trace-numbered (fabricIn f .words) (listTarget (fabricIn f) (q .port)) (q .limit) (q .asked)) z
+        first-no-more asked-first asked-then
+        (trace-numbered (fabricIn f .words) (listTarget (fabricIn f) (q .port)) (q .limit) (q .asked)) z
         ∙ ap₂ (λ (a b : Bool). pick a (pick b 0 12) 13) w r
 
     -- "if one more is needed, question 13 gets a no"

@@ -1,5 +1,5 @@
-// What a set of w words that stands in some bytes, from word k on, leaves of a header set of eight words: document 01's parts, in its order,
-// those of the first four words before those of the last four. Document 02, 2.6.
+// What a set of w words that stands in some bytes, from word k on, leaves of a header set of eight words: document 01's parts, in its
+// order, those of the first four words before those of the last four. Document 02, 2.6.
 use records::HALF;
 use wide::MaybeWide;
 use wide::WideSet;

@@ -246,7 +246,8 @@ module _ (f : List ℕ) (s : Shape) (ok : Accepted f s) (q : Query) where
         record {
           listed =
               ap₂ (λ (k m : ℕ). findsRead (F .words) k (wordsFrom m (bytesOf ws ++ drop (4 * length ws) area) 0)) n n
-              ∙ ap (findsRead (F .words) (length ws)) (words-back ws (drop (4 * length ws) area) (fit-finds (F .words) (finds (listAsked F q)) (h .sayable)))
+              ∙ ap (findsRead (F .words) (length ws))
+              (words-back ws (drop (4 * length ws) area) (fit-finds (F .words) (finds (listAsked F q)) (h .sayable)))
               ∙ finds-back (F .words) (finds (listAsked F q)) (h .sayable) (length ws) (omega arith);
           hold-just = h .hold-just;
           within-budget = l;

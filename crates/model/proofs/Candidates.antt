@@ -19,7 +19,8 @@ use Rattle.model.specs.Taking.{Better}
 use Rattle.model.specs.declared.Best.{Best}
 use Rattle.model.proofs.EntryRead.{EntryRead, words-are}
 
-module _ (f : List ℕ) (s : Shape) (ok : Accepted f s) (x : ℕ) (h : Header) (i : ℕ) (e : List ℕ) (read : EntryRead (widthIn f) (fabricIn f) i e) where
+module _ (f : List ℕ) (s : Shape) (ok : Accepted f s) (x : ℕ) (h : Header) (i : ℕ) (e : List ℕ)
+    (read : EntryRead (widthIn f) (fabricIn f) i e) where
   holds-is : holds (wideIn f) i h ≡ contains wideWords (widest (widthIn f) (entryMatch (widthIn f) e)) h
   unfolding holds
   holds-is =
@@ -31,7 +32,8 @@ module _ (f : List ℕ) (s : Shape) (ok : Accepted f s) (x : ℕ) (h : Header) (
   pub no-match : contains wideWords (widest (widthIn f) (entryMatch (widthIn f) e)) h ≡ false → candidate (wideIn f) x h i ≡ false
   no-match d = ap (λ (b : Bool). eqb x (inPortOf (fabricIn f) i) && b) (holds-is ∙ d) ∙ and-false (eqb x (inPortOf (fabricIn f) i))
 
-  pub is-match : entryIn e ≡ x → contains wideWords (widest (widthIn f) (entryMatch (widthIn f) e)) h ≡ true → candidate (wideIn f) x h i ≡ true
+  pub is-match : entryIn e ≡ x → contains wideWords (widest (widthIn f) (entryMatch (widthIn f) e)) h ≡ true
+      → candidate (wideIn f) x h i ≡ true
   is-match p d = ap₂ _&&_ (eq-eqb x (inPortOf (fabricIn f) i) (sym p ∙ read .in-port)) (holds-is ∙ d)
 
   module _ (b : Best) (within : b .entry ≤ fabricIn f .entries) where

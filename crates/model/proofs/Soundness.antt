@@ -73,7 +73,8 @@ module _ (f : List ℕ) (s : Shape) (ok : Accepted f s) where
         (λ j l q. no-edge-at-to f s ok (d .number-then) j (d .below) l (d .port-is ∙ sym q));
     edge-below = λ x e. omega (arith, edge-there f s x e .port-is);
     end-below = λ x y. end x y (number (recent tos (s .links)) x) refl;
-    match-well-formed = λ e. by-entry (λ x. WellFormed (widthIn f) (x .matches)) e (λ l. entry-of f s ok e l .matches) (all-wild-well-formed (widthIn f));
+    match-well-formed = λ e.
+        by-entry (λ x. WellFormed (widthIn f) (x .matches)) e (λ l. entry-of f s ok e l .matches) (all-wild-well-formed (widthIn f));
     admitted-well-formed = λ x. admitted x (number (recent (portOfEdge f) (s .edges)) x) refl;
     rewrite-written = λ e.
         by-entry (λ x. Written (widthIn f) (x .action .rewrite)) e (λ l. entry-of f s ok e l .rewrites)
@@ -88,7 +89,8 @@ module _ (f : List ℕ) (s : Shape) (ok : Accepted f s) where
       end x y zero d e = absurd (omega arith)
       end x y (suc i) d e = omega (arith, number-has tos (s .links) x i d .1)
 
-      by-entry : (P : Forwarding.Entry → Type 0) (e : ℕ) → (e < s .entries → P (entryFrom (widthIn f) (entryBytes f s e))) → P (noEntry (widthIn f))
+      by-entry : (P : Forwarding.Entry → Type 0) (e : ℕ) → (e < s .entries → P (entryFrom (widthIn f) (entryBytes f s e)))
+          → P (noEntry (widthIn f))
           → P (pick (ltb e (s .entries)) (entryFrom (widthIn f) (entryBytes f s e)) (noEntry (widthIn f)))
       by-entry P e there past = go (decLt e (s .entries))
         where

@@ -68,7 +68,8 @@ returns-2 c =
     let width = part .before .before .number .ensures .0 ∙ s .pre .0 .width-is in
     judged-stops (s .pre .1 .0) (targetOf (now (a .ask))) (s .pre .0 .group-is) (now (a .path)) (a .d) (wideOf (a .p)) width
     (part .before .before .before .before .edge .ensures) (part .foreign-part .result) (part .foreign-part .ensures)
-    (now (a .counters)) (now (a .area)) (not-false _ (test .if1 .left)) (rw (wrote .before .port-at .ensures, width) at (wrote .put-reached .ensures))
+    (now (a .counters)) (now (a .area)) (not-false _ (test .if1 .left))
+    (rw (wrote .before .port-at .ensures, width) at (wrote .put-reached .ensures))
 
 pub judge-spec : {M : Type 1} → statement M
 judge-spec =

@@ -36,7 +36,8 @@ returns c =
     let s = put .before .before .before .before .before in
     let a = s .args in (
       listed-is (s .pre .1 .1 .0) (now (a .file)) (a .k) (a .w) (wideOf (a .p)) (longs s .0) (longs s .1)
-          (now (a .counters)) (now (a .area)) (c .count-find .last .1 .1 .0) (c .count-find .ensures .0) (c .count-find .ensures .1 .0) (put .put-fitting .ensures),
+          (now (a .counters)) (now (a .area)) (c .count-find .last .1 .1 .0) (c .count-find .ensures .0)
+          (c .count-find .ensures .1 .0) (put .put-fitting .ensures),
       c .count-find .ensures .1 .1,
     )
 

@@ -57,7 +57,8 @@ returns c =
     let long : length header ≡ a .w = length-take-le (a .w) whole (omega (arith, s .pre .0 .high)) in
     written-both 0 (1 ∷ a .units ∷ a .port ∷ (16 - a .d) ∷ []) (header ++ entries) (now (a .area)) (first .put-words .ensures)
     (written-both 4 header entries (first .put-words .last .0)
-    (rw (first .before .before .before .lowest .ensures) at (second .put-header .ensures)) (third .put-sixteen .ensures) (omega arith) (omega arith))
+    (rw (first .before .before .before .lowest .ensures) at (second .put-header .ensures))
+    (third .put-sixteen .ensures) (omega arith) (omega arith))
     (omega arith) (omega arith)
     ∙ ap (λ (n : ℕ). writtenAt 0 (1 ∷ a .units ∷ a .port ∷ n ∷ (header ++ entries)) (now (a .area))) (sym (hops-are (s .pre .1 .0)))
 

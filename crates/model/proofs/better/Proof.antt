@@ -105,7 +105,8 @@ returns-3 c =
     let s = c .before .before .before .before .before .before .before .before in
     better-first (now (s .args .file)) (s .args .shape) (s .pre .0) _ _ _ _
     (entry-i (c .before .before .before .before .before .before)) _ (within s)
-    (chosen (c .before .before)) (λ l. absurd (omega (arith, entries-are (now (s .args .file)) (s .args .shape) (s .pre .0), c .if3 .taken)))
+    (chosen (c .before .before))
+    (λ l. absurd (omega (arith, entries-are (now (s .args .file)) (s .args .shape) (s .pre .0), c .if3 .taken)))
 
 entry-requires-2 : tie.Need-entry-requires-2
 entry-requires-2 c κs = search needs

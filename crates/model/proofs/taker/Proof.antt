@@ -57,12 +57,14 @@ returns c =
     let n = entries-are (now (s .args .file)) (s .args .shape) (s .pre) in
     let all : c .before .loop .i ≡ wideIn (now (s .args .file)) .entries = omega (arith, n) in
     let r = c .before .loop .best in
-    let best = subst (λ (k : ℕ). IsBest (wideIn (now (s .args .file))) (s .args .x) (wordsOf (s .args .h)) k r) all (c .before .loop .inv .3) in
+    let best = subst (λ (k : ℕ). IsBest (wideIn (now (s .args .file))) (s .args .x) (wordsOf (s .args .h)) k r) all
+    (c .before .loop .inv .3) in
     record {
       within = omega (arith, n);
       one-takes = best-alone (wideIn (now (s .args .file))) (s .args .x) (wordsOf (s .args .h)) (r .entry) (r .tied) best;
       several-take = best-several (wideIn (now (s .args .file))) (s .args .x) (wordsOf (s .args .h)) (r .entry) (r .tied) best;
-      none-takes = λ e. best-none (wideIn (now (s .args .file))) (s .args .x) (wordsOf (s .args .h)) (r .entry) (r .tied) best (λ l. omega arith);
+      none-takes = λ e.
+          best-none (wideIn (now (s .args .file))) (s .args .x) (wordsOf (s .args .h)) (r .entry) (r .tied) best (λ l. omega arith);
     }
 
 pub taker-spec : {M : Type 1} → statement M
