@@ -89,7 +89,8 @@ def turned(text, respelled, fields, comment):
 
 def main():
     respelled, fields = spellings()
-    camel = {name: to for name, to in respelled.items() if "-" not in name}
+    # functions of src/ keep their names: in code only what is in camel case is a name of a definition
+    camel = {name: to for name, to in respelled.items() if name != name.lower() and "-" not in name}
     for ending, comment, names in ((".antt", "--", respelled), (".rt", "//", camel)):
         for path in files(ending):
             with open(path, encoding="utf-8") as file:

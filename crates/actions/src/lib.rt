@@ -1,4 +1,5 @@
 // What an entry does to a header, and its undoing, on four words. What each call means is in crates/headers, specs/Actions.
+#![tactic(auto)]
 ghost use Rattle.std.specs.Prelude.{◌≡◌};
 ghost use Rattle.headers.specs.Sets.{rewritten, undone, writes};
 ghost use Rattle.headers.specs.Actions.{acted, met_before, before, no_action};
@@ -9,7 +10,7 @@ use headers::Transfer;
 use sets::{HeaderSet, MaybeSet};
 
 // What an entry does to a header: the transfer, and then masked bits become the value's.
-#[derive(Drop)]
+#[derive(Clone, Copy)]
 pub struct Action {
     pub transfer: Transfer,
     pub mask: [u32; 4],

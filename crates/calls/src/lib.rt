@@ -1,4 +1,5 @@
 // No functions: what document 01's calls answer on an accepted fabric is in specs/, what follows from it in proofs/.
+#![tactic(auto)]
 
 // Questions 12 and 13, where they are asked by themselves.
 pub const NO_ROOM: u64 = 12;

@@ -1,5 +1,6 @@
 // What a set of w words that stands in some bytes, from word k on, leaves of a header set of eight words, part by part: document 01's
 // parts, in its order, those of the first four words before those of the last four. Document 02, 2.6.
+#![tactic(auto)]
 ghost use Rattle.std.specs.Prelude.{true, false, ◌≡◌};
 ghost use Rattle.headers.specs.Bits.{no_bit};
 ghost use Rattle.headers.specs.Sets.{outside};
@@ -13,7 +14,7 @@ use records::HALF;
 use wide::WideSet;
 
 // What is left to carve of a set: the bits that are free in its first four words, or, those done, in its last four; and the first of them.
-#[derive(Drop)]
+#[derive(Clone, Copy)]
 pub struct Cut {
     pub set: WideSet,
     pub high: bool,
@@ -34,7 +35,7 @@ fn cut_high(x: &[u8], k: usize, w: usize, p: WideSet) -> Cut
         set: p,
         high: true,
         free,
-        bit: words::first_bit_lem(free),
+        bit: words::first_bit(free),
     }
 }
 
@@ -55,7 +56,7 @@ pub fn first_cut(x: &[u8], k: usize, w: usize, p: WideSet) -> Cut
         set: p,
         high: false,
         free,
-        bit: words::first_bit_lem(free),
+        bit: words::first_bit(free),
     }
 }
 
@@ -136,7 +137,7 @@ pub fn next_cut(x: &[u8], k: usize, w: usize, c: Cut) -> Cut
             },
             high: true,
             free: left,
-            bit: words::first_bit_lem(left),
+            bit: words::first_bit(left),
         };
     }
     let set = WideSet {
@@ -152,6 +153,6 @@ pub fn next_cut(x: &[u8], k: usize, w: usize, c: Cut) -> Cut
         set,
         high: false,
         free: left,
-        bit: words::first_bit_lem(left),
+        bit: words::first_bit(left),
     }
 }

@@ -1,5 +1,6 @@
 // Where numbers stand in what the code of the trace is handed (specs/Asked.antt). No code: what is done with an event of the back-trace is
 // in specs/Play.antt, what follows from it in proofs/, and the code that does it in `units`, `listing` and `finds`.
+#![tactic(auto)]
 
 // Where numbers stand in `ask`.
 pub const BUDGET: usize = 0;
@@ -23,7 +24,7 @@ pub const JUDGE: u32 = 3;
 pub const PLACES: usize = 16;
 
 // How a pass ended (0 through, 1 the budget was used, 2 the verdict stops), the units made and the words of the finds.
-#[derive(Drop)]
+#[derive(Clone, Copy)]
 pub struct Passed {
     pub status: u32,
     pub made: u64,

@@ -1,5 +1,6 @@
 // The calls that the runtime's host makes: document 01, "The runtime's host, in Rust, makes these calls on byte slices and numbers".
 // Each asks document 01's questions in turn, and returns place × 256 + number; after a no every lent byte is as it was.
+#![tactic(auto)]
 ghost use Rattle.std.specs.Prelude.{◌≡◌, [], ◌∷◌};
 ghost use Rattle.sets.specs.Forms.{set_of};
 ghost use Rattle.answer.specs.Answer.{outcome};
@@ -23,7 +24,7 @@ use wide::WideSet;
 // ---- the calls
 
 // Document 01's calls.
-#[derive(Drop)]
+#[derive(Clone, Copy)]
 pub enum Call {
     Verdict,
     List,

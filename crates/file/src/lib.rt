@@ -1,6 +1,7 @@
 // The fabric file of document 01, read record by record: questions 1 to 7, and the records of an accepted file. What is asked stands in
 // the crate `questions`, what a record's bytes say in `records`. What follows for an accepted file is in proofs/Accepted.antt. hw is the
 // words of a header in the file, by its version.
+#![tactic(auto)]
 ghost use Rattle.std.specs.Prelude.{◌≡◌, ◌<◌, ◌≤◌};
 ghost use Rattle.layout.specs.Words.{words_in};
 ghost use Rattle.layout.specs.Records.{Width, width_in, place_of, place_in, from_of_link, to_of_link, edge_bytes, entry_bytes};
@@ -17,7 +18,7 @@ use layout::Shape;
 use questions::Read;
 
 // How many records of a kind got yeses, and the number of the no that the next one got, or 0.
-#[derive(Drop)]
+#[derive(Clone, Copy)]
 struct Run {
     no: u32,
     count: usize,

@@ -1,6 +1,6 @@
 -- One entry traced back: document 01, "The back-trace and its count", the headers that it sends into a set. Assumes nothing.
 use mathlib.Core.List.{List, [], ◌∷◌, flat_map}
-use Rattle.std.proofs.Math.Option.{Option, bind, Option·elim}
+use Rattle.std.proofs.Math.Option.{Option, bind, Option-elim}
 use Rattle.std.specs.Prelude.{ℕ}
 use Rattle.headers.specs.Sets.{Set, intersection}
 use Rattle.headers.specs.Carving.{carve}
@@ -22,4 +22,4 @@ module _ (f : Fabric) where
 
   -- the parts of the back-traced set of entry e for the exit set t
   unfoldable pub back_traced : ℕ → Set → List Set
-  back_traced e t = Option·elim (back e t) [] (survivors (beaters e))
+  back_traced e t = Option-elim (back e t) [] (survivors (beaters e))

@@ -1,7 +1,7 @@
 -- Document 01's examples on fabric F and on single entries, and where the published method misleads; each computed. Assumes nothing.
 use Rattle.std.specs.Prelude.{Bool, true, false, ◌||◌, cond, ◌≡◌, refl, ℕ, eqb, length, get_or}
 use mathlib.Core.List.{List, [], ◌∷◌, ◌++◌, map, flat_map}
-use Rattle.std.proofs.Math.Option.{some, none, bind, Option·elim, or_else}
+use Rattle.std.proofs.Math.Option.{some, none, bind, Option-elim, or_else}
 use Rattle.headers.specs.Bits.{bit, bit_at, positions, those, set_bits, single}
 use Rattle.headers.specs.Sets.{Header, Set, all_wild, no_rewrite, intersection, undone}
 use Rattle.headers.specs.Actions.{Act, no_action, unacted}
@@ -71,7 +71,7 @@ unfolding computing_sets holds beats applied unbeaten takes takers hop run fate_
 computing_run = tt
 
 computing_back : Unit {0}
-unfolding computing_run bind Option·elim flat_map undoes back beaters survivors back_traced
+unfolding computing_run bind Option-elim flat_map undoes back beaters survivors back_traced
 computing_back = tt
 
 computing : Unit {0}

@@ -1,7 +1,7 @@
 -- The back-trace as a list of events, which knows no budget: T1 to T12, and T17 and T18 for the packets that are lost.
 use Rattle.std.specs.Prelude.{Bool, true, false, ◌&&◌, ◌||◌, cond, ℕ, zero, suc, ◌+◌, eqb, ltb}
 use mathlib.Core.List.{List, [], ◌∷◌, flat_map}
-use Rattle.std.proofs.Math.Option.{Option·elim}
+use Rattle.std.proofs.Math.Option.{Option-elim}
 use Rattle.headers.specs.Bits.{positions, those}
 use Rattle.headers.specs.Sets.{Header, Set, contains}
 use Rattle.headers.specs.Carving.{carve, one}
@@ -39,7 +39,7 @@ module _ (f : Fabric) where
   -- T3 to T5: taken up, one unit; its action undone for T and met with the match; if empty, next entry; carved by the entries that beat it
   unfoldable pub taken_up : (ℕ → Set → List ℕ → List Event) → Set → List ℕ → ℕ → List Event
   taken_up next t path e =
-      unit ∷ Option·elim (back f e t) [] (carved (at_in_port next (in_port_of f e) (e ∷ path)) (beaters f e))
+      unit ∷ Option-elim (back f e t) [] (carved (at_in_port next (in_port_of f e) (e ∷ path)) (beaters f e))
 
   -- "A stop is an out-port, a set T and hops left. At a stop, the entries with that out-port are taken up in file order"; with no hop
   -- left there is no stop. `path` leads from there to the target.

@@ -1,4 +1,5 @@
 // Runs the operations on header sets on examples beyond document 01's, and prints what they give, a set as care / value.
+#![tactic(auto)]
 use actions::Action;
 use headers::Transfer;
 use libc::STDOUT_FILENO;
@@ -66,7 +67,7 @@ fn put_parts(label: &[u8], p: HeaderSet, b: HeaderSet) {
     let mut rest = p;
     let mut free = rest.free(b);
     while !words::none_set(free) {
-        let bit = words::first_bit_lem(free);
+        let bit = words::first_bit(free);
         put_set(rest.unlike(bit, b));
         end();
         let later = words::outside(bit, free);

@@ -1,4 +1,5 @@
 // A packet on its way: document 01, "Forwarding".
+#![tactic(auto)]
 ghost use Rattle.std.specs.Prelude.{◌≡◌, ◌*◌, ◌≤◌, ◌<◌, length};
 ghost use Rattle.answer.specs.Answer.{answer_words, written_at};
 ghost use Rattle.layout.specs.Records.{Width};
@@ -24,7 +25,7 @@ const TRAVELLING: u32 = 3;
 const TIED: u32 = 4;
 
 // A packet: its fate, port, header and hops made, and the entries that took it.
-#[derive(Drop)]
+#[derive(Clone, Copy)]
 pub struct Journey {
     pub fate: u32,
     pub port: u32,

@@ -1,5 +1,6 @@
 // The first part that a set of w words, which stands in some bytes from word k on, leaves of a header set of eight words. Document 01's
 // order: parts of the first four words before those of the last four. Document 02, 2.6.
+#![tactic(auto)]
 ghost use Rattle.std.specs.Prelude.{false, ◌&&◌, ◌≡◌};
 ghost use mathlib.Core.List.{head?};
 ghost use Rattle.std.proofs.Math.Option.{some};
@@ -51,11 +52,11 @@ fn leading_part(x: &[u8], k: usize, w: usize, p: WideSet) -> WideSet
     if words::none_set(low_free) {
         return WideSet {
             low,
-            high: high.unlike(words::first_bit_lem(high.free(c)), c),
+            high: high.unlike(words::first_bit(high.free(c)), c),
         };
     }
     WideSet {
-        low: low.unlike(words::first_bit_lem(low_free), m),
+        low: low.unlike(words::first_bit(low_free), m),
         high,
     }
 }

@@ -1,5 +1,6 @@
 // The entries of an accepted file that may take a header, and what befalls one that none takes. What a file's fabric is, is in
 // specs/Model.antt.
+#![tactic(auto)]
 ghost use Rattle.std.specs.Prelude.{◌≡◌, ℕ, ◌≤◌, ◌<◌, leb};
 ghost use Rattle.wide.specs.Forms.{words_of};
 ghost use Rattle.file.specs.Accepted.{Accepted};
@@ -35,7 +36,7 @@ pub fn miss_drops(file: &[u8], shape: Shape) -> bool
 }
 
 // One of the highest entries that match so far, and whether another of its priority does; the number of entries stands for 'none'.
-#[derive(Drop)]
+#[derive(Clone, Copy)]
 pub struct Best {
     pub entry: usize,
     pub tied: bool,

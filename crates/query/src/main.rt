@@ -1,4 +1,5 @@
 // The program of document 01: a query and a fabric on standard input, the answer as text. What the input asks is in `input`.
+#![tactic(auto)]
 ghost use Rattle.std.specs.Prelude.{◌≡◌, min};
 
 use libc::{STDIN_FILENO, STDOUT_FILENO};

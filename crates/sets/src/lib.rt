@@ -1,5 +1,6 @@
 // Header sets of four words: membership, intersection, the undoing of transfers, and what carving makes of a set. What each call means is
 // in crates/headers, specs/Sets, Actions and Carving.
+#![tactic(auto)]
 ghost use Rattle.std.specs.Prelude.{◌≡◌};
 ghost use Rattle.headers.specs.Sets.{contains, tidy, overlaps, joined, intersection, widened, lowest, all_wild};
 ghost use Rattle.headers.specs.Actions.{swapped, moved_set, uncopied, untransferred};
@@ -9,14 +10,14 @@ ghost use Rattle.sets.specs.Forms.{set_of, form_of, maybe_of};
 use headers::Transfer;
 
 // The headers that equal the value on every care bit.
-#[derive(Drop)]
+#[derive(Clone, Copy)]
 pub struct HeaderSet {
     pub care: [u32; 4],
     pub value: [u32; 4],
 }
 
 // A set, or empty where `some` is false.
-#[derive(Drop)]
+#[derive(Clone, Copy)]
 pub struct MaybeSet {
     pub some: bool,
     pub set: HeaderSet,

@@ -1,6 +1,7 @@
 // Headers and header sets of eight words: a set of four beside another of four. Document 02, 2.6.
 // In version 1 of the file a set has four words, and is taken for one of eight whose last four are wild: so one code serves both
 // versions. How such a set meets one that stands in the file is in `stored`.
+#![tactic(auto)]
 ghost use Rattle.std.specs.Prelude.{◌≡◌};
 ghost use Rattle.headers.specs.Sets.{padded, lowest};
 ghost use Rattle.sets.specs.Forms.{set_of};
@@ -10,21 +11,21 @@ ghost use Rattle.wide.specs.Forms.{wide_words, words_of, wide_of};
 use sets::HeaderSet;
 
 // The words of a header, the first four and the last four.
-#[derive(Drop)]
+#[derive(Clone, Copy)]
 pub struct WideHeader {
     pub low: [u32; 4],
     pub high: [u32; 4],
 }
 
 // The headers that equal the value on every care bit.
-#[derive(Drop)]
+#[derive(Clone, Copy)]
 pub struct WideSet {
     pub low: HeaderSet,
     pub high: HeaderSet,
 }
 
 // A set, or empty where `some` is false.
-#[derive(Drop)]
+#[derive(Clone, Copy)]
 pub struct MaybeWide {
     pub some: bool,
     pub set: WideSet,

@@ -1,4 +1,6 @@
 // Four words, word by word: what the operations on sets and actions are made of.
+#![tactic(auto)]
+
 ghost use Rattle.std.specs.Prelude.{◌≡◌, ◌-◌, ◌^◌, ◌<◌};
 ghost use Rattle.std.specs.Int.Count.{count_leading_zeros};
 ghost use Rattle.headers.specs.Bits.{no_bit, first_bit};
@@ -88,7 +90,7 @@ fn top(x: u32) -> u32
 }
 
 // The first set bit alone, in document 01's order; no bit where none is set.
-pub fn first_bit_lem(x: [u32; 4]) -> [u32; 4]
+pub fn first_bit(x: [u32; 4]) -> [u32; 4]
     ensures { result ≡ first_bit 4 x }
 {
     if x[0] != 0 {
