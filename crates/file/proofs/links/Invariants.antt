@@ -1,0 +1,13 @@
+-- The loop has `LinksSoFar` in hand; each way out is a law of proofs/Loops.antt. t is the place after the test of the kind.
+use Rattle.file.proofs.Loops.{LinksSoFar}
+use Prim.Native.Nat.{◌-◌}
+use Rattle.file.proofs.Loops as loops
+use borrow.Author.Rules.{rules}
+use native.Mathlib.Omega.{arith}
+use Rattle.file.proofs.links.Given as goal
+
+abbrev pub invariant-loop-at : goal.invariant-loop-at
+invariant-loop-at l = LinksSoFar l.file l.e l.l l.at l.last l.starts l.ends
+
+abbrev pub decreases-loop-at : goal.decreases-loop-at
+decreases-loop-at l = l.words - l.at

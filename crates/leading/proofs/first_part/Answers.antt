@@ -1,0 +1,17 @@
+-- `first_part` meets its contract.
+use mathlib.Core.Path.{sym, ◌∙◌}
+use borrow.Author.Rules.{rules}
+use Rattle.wide.proofs.Arrays.{set_fours}
+use Rattle.carving.proofs.Cuts.{all_held}
+use Rattle.leading.proofs.first_part.Goals as goal
+
+pub returns-then-covers : goal.returns-then-covers
+returns-then-covers c =
+    let f = set_fours c.args.p c.well_formed.1.1.1.0 in
+    sym (all_held c.requires f.low f.high (sym c.covers.ensures ∙ c.if-covers.true))
+
+pub leading_part-requires : goal.leading_part-requires
+leading_part-requires c = record { stored = c.requires; k_value = sym c.covers.ensures ∙ c.if-covers.false }
+
+pub returns : goal.returns
+returns c = sym c.leading_part.ensures

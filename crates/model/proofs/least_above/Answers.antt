@@ -1,0 +1,10 @@
+-- `least_above` meets its contract: strictly above q is from q + 1 on.
+use mathlib.Core.Path.{ap}
+use Prim.Native.Nat.{ℕ}
+use native.Mathlib.Numerals.{add-one}
+use borrow.Author.Rules.{rules}
+use lib.Dec.{leb}
+use Rattle.model.proofs.least_above.Goals as goal
+
+pub returns : goal.returns
+returns c = λ p. ap (λ (k : ℕ). leb k p) (add-one c.args.q)

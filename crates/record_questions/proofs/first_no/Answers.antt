@@ -1,0 +1,6 @@
+-- The questions are asked from the last to the first, each with the answer of the later ones.
+use borrow.Author.Rules.{rules}
+use Rattle.record_questions.proofs.first_no.Goals as goal
+
+pub returns : goal.returns
+returns c = cc

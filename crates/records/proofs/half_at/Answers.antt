@@ -1,0 +1,6 @@
+-- Care and value as they were read.
+use borrow.Author.Rules.{rules}
+use Rattle.records.proofs.half_at.Goals as goal
+
+pub returns : goal.returns
+returns c = λ i. record { care = c.four_at.ensures i; value = c.four_at-2.ensures i }

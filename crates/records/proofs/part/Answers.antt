@@ -1,0 +1,9 @@
+-- From 4k on, 4n bytes.
+use Rattle.layout.specs.Words.{bytes_from}
+use native.Mathlib.Nat.{add-sub_cancel_left}
+use borrow.Author.Rules.{rules}
+use Rattle.records.proofs.part.Goals as goal
+
+pub returns : goal.returns
+unfolding bytes_from
+returns c = rw add-sub_cancel_left

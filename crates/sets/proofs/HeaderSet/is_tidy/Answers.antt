@@ -1,0 +1,6 @@
+-- No bit of the value is set outside care.
+use borrow.Author.Rules.{rules}
+use Rattle.sets.proofs.HeaderSet.is_tidy.Goals as goal
+
+pub returns : goal.returns
+returns c = rw c.outside.ensures at c.none_set.ensures

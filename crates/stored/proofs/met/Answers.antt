@@ -1,0 +1,45 @@
+-- `met` meets its contract: what each half has in common; of four words the last four stay as they are.
+use mathlib.Core.Path.{◌∙◌}
+use borrow.Author.Rules.{rules}
+use borrow.Author.Tests.{not-true, not-false}
+use Rattle.wide.proofs.Arrays.{set_fours}
+use Rattle.wide.proofs.Halves.{met_halves, wild_met}
+use Rattle.wide.proofs.Answers.{first_empty, last_kept, last_empty, both_there}
+use Rattle.stored.proofs.met.Goals as goal
+
+pub returns-then-not-low : goal.returns-then-not-low
+returns-then-not-low c =
+    let f = set_fours c.args.s c.well_formed.1.1.1.0 in
+    let is = met_halves c.requires f.low f.high in
+    let low = rw c.low_at.ensures at c.intersect-low.ensures in
+    c.empty.ensures
+    ∙ first_empty _ _ _ is _ low (not-true _ c.if-not-low.true)
+
+pub returns-then-w-eq-HALF : goal.returns-then-w-eq-HALF
+returns-then-w-eq-HALF c =
+    let f = set_fours c.args.s c.well_formed.1.1.1.0 in
+    let is = met_halves c.requires f.low f.high in
+    let low = rw c.low_at.ensures at c.intersect-low.ensures in
+    c.beside.ensures
+    ∙ last_kept _ _ _ is _ low (not-false _ c.if-not-low.false)
+    _ (wild_met c.requires c.if-w-eq-HALF.true f.high)
+
+pub returns-then-not-high : goal.returns-then-not-high
+returns-then-not-high c =
+    let last = rw c.high_at.ensures at c.intersect-high.ensures in
+    let f = set_fours c.args.s c.well_formed.1.1.1.0 in
+    let is = met_halves c.requires f.low f.high in
+    let low = rw c.low_at.ensures at c.intersect-low.ensures in
+    c.empty-then-not-high.ensures
+    ∙ last_empty _ _ _ is _ low (not-false _ c.if-not-low.false)
+    _ last (not-true _ c.if-not-high.true)
+
+pub returns : goal.returns
+returns c =
+    let last = rw c.high_at.ensures at c.intersect-high.ensures in
+    let f = set_fours c.args.s c.well_formed.1.1.1.0 in
+    let is = met_halves c.requires f.low f.high in
+    let low = rw c.low_at.ensures at c.intersect-low.ensures in
+    c.beside-2.ensures
+    ∙ both_there _ _ _ is _ low (not-false _ c.if-not-low.false)
+    _ last (not-false _ c.if-not-high.false)
