@@ -1,8 +1,10 @@
 // The program of document 01: a query and a fabric on standard input, the answer as text. What the input asks is in `input`.
 #![tactic(auto)]
-ghost use Rattle.std.specs.Prelude.{◌≡◌, min};
 
-use libc::{STDIN_FILENO, STDOUT_FILENO};
+ghost use Rattle.std.specs.Prelude.{◌≡◌, ◌≤◌, min, length, IfOk};
+
+use std::io;
+use std::io::{Input, Print, Read};
 
 fn least(a: usize, b: usize) -> usize
     ensures { result ≡ min a b }
@@ -10,42 +12,49 @@ fn least(a: usize, b: usize) -> usize
     if a < b { a } else { b }
 }
 
-fn put_line(w: u32) {
-    io::print_hex(STDOUT_FILENO, w as u64, 8);
-    io::write_all(STDOUT_FILENO, b"\n");
+// Reads until the buffer is full or the input ends, and returns how many bytes were read.
+fn read_full<R: Read>(reader: &mut R, buf: &mut [u8]) -> io::Result<usize>
+    ensures { IfOk result (λ n. n ≤ length buf.new) }
+{
+    let mut n: usize = 0;
+    while n < buf.len() {
+        let more = reader.read(&mut buf[n..])?;
+        if more == 0 {
+            break;
+        }
+        n += more;
+    }
+    Ok(n)
+}
+
+fn put_line(rt: &impl Print, w: u32) -> io::Result<()> {
+    println!(rt; "{w:08x}")
 }
 
 // `ok N` and N words, eight lower-case hex digits a line.
-fn put_words(area: &[u8], n: usize) {
-    io::write_all(STDOUT_FILENO, b"ok ");
-    io::print_decimal(STDOUT_FILENO, n as u64);
-    io::write_all(STDOUT_FILENO, b"\n");
+fn put_words(rt: &impl Print, area: &[u8], n: usize) -> io::Result<()> {
+    println!(rt; "ok {n}")?;
     let end = least(n, area.len() / 4);
-    let mut k: usize = 0;
-    while k < end {
-        put_line(records::word(area, k));
-        k += 1;
+    for k in 0..end {
+        put_line(rt, records::word(area, k))?;
     }
+    Ok(())
 }
 
 // `no NUMBER at PLACE`.
-fn put_no(number: u64, place: u64) {
-    io::write_all(STDOUT_FILENO, b"no ");
-    io::print_decimal(STDOUT_FILENO, number);
-    io::write_all(STDOUT_FILENO, b" at ");
-    io::print_decimal(STDOUT_FILENO, place);
-    io::write_all(STDOUT_FILENO, b"\n");
+fn put_no(rt: &impl Print, number: u64, place: u64) -> io::Result<()> {
+    println!(rt; "no {number} at {place}")
 }
 
 // A word more than the query and the longest fabric, so that a longer input fails question 1 as it should.
-fn main() {
+fn main(rt: HostRuntime) -> io::Result<()> {
     let mut input = [0u8; 59868];
-    let n = io::read_full(STDIN_FILENO, &mut input);
+    let n = read_full(&mut rt.reader(), &mut input)?;
     let mut area = [0u8; 65536];
     let r = input::call(&input[..n], &mut area);
     if r % 256 == 0 {
-        put_words(&area, (r / 256) as usize);
+        put_words(&rt, &area, (r / 256) as usize)
     } else {
-        put_no(r % 256, r / 256);
+        put_no(&rt, r % 256, r / 256)
     }
 }
