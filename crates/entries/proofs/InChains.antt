@@ -16,7 +16,8 @@ module _ {port_of : ℕ → ℕ} {n first next : ℕ} {cells : List ℕ} (small 
 
   -- the next one with the port of entry e
   pub chain_next : (e r : ℕ) → e < n → r ≡ get_or cells (next + e) 0 → Next port_of n (port_of e) (suc e) r
-  chain_next e r l d = subst (Next port_of n (port_of e) (suc e)) (sym (d ∙ c.links e (omega arith) l)) (next_found port_of n (port_of e) small (suc e) l)
+  chain_next e r l d =
+      subst (Next port_of n (port_of e) (suc e)) (sym (d ∙ c.links e (omega arith) l)) (next_found port_of n (port_of e) small (suc e) l)
 
 pub next_in_chain : {port_of : ℕ → ℕ} {n p j r : ℕ} → n ≤ no_entry → Next port_of n p j r → InChain port_of n p r
 next_in_chain {port_of} {n} {p} {j} {r} small x = go (dec_lt r n)

@@ -1,5 +1,6 @@
 // An entry of an accepted file: its own bytes, and the headers that it takes back to. What is promised stands in specs/Entries.antt.
 #![tactic(auto)]
+
 ghost use Rattle.std.specs.Prelude.{◌≡◌, ◌≤◌, ◌<◌, length};
 ghost use Rattle.headers.specs.Sets.{overlaps, intersection, undone};
 ghost use Rattle.headers.specs.Actions.{met_before};

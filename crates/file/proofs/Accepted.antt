@@ -11,7 +11,8 @@ use borrow.Author.Tests.{eqb-true}
 use Rattle.headers.specs.Sets.{tidy}
 use Rattle.headers.proofs.Booleans.{and_fst}
 use Rattle.layout.specs.Words.{word_at, words_in, bytes_from, transfer_of, port_of}
-use Rattle.layout.specs.Records.{half, Width, width_in, admitted_at, edge_words, match_at, rewrite_at, entry_words, edge_port, entry_in, entry_out}
+use Rattle.layout.specs.Records.{half, Width, width_in, admitted_at, edge_words, match_at, rewrite_at, entry_words}
+use Rattle.layout.specs.Records.{edge_port, entry_in, entry_out}
 use Rattle.layout.specs.Records.{place_of, place_in, port_of_edge, from_of_link, to_of_link, in_of_entry, edge_bytes, entry_bytes, recent}
 use Rattle.layout.specs.Limits.{most_edges, most_links, most_at_port, most_entries, most_bytes, most_words}
 use Rattle.layout.specs.declared.Shape.{Shape}

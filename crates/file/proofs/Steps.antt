@@ -27,13 +27,15 @@ edge_passed f e k =
     let at : place_in f e 0 0 + edge_words (width_in f) ≡ place_in f (e + 1) 0 0 = omega arith in
     simp (k, one_more, recent_more, ← at)
 
-pub link_passed : (f : List ℕ) (e l : ℕ) → kind_of (word_at f (place_in f e l 0)) ≡ 3 → passed f (passed_at f e l 0) ≡ passed_at f e (l + 1) 0
+pub link_passed : (f : List ℕ) (e l : ℕ) → kind_of (word_at f (place_in f e l 0)) ≡ 3
+    → passed f (passed_at f e l 0) ≡ passed_at f e (l + 1) 0
 unfolding passed passed_at
 link_passed f e l k =
     let at : place_in f e l 0 + 1 ≡ place_in f e (l + 1) 0 = omega arith in
     simp (k, one_more, recent_more, ← at)
 
-pub entry_passed : (f : List ℕ) (e l n : ℕ) → kind_of (word_at f (place_in f e l n)) ≡ 4 → passed f (passed_at f e l n) ≡ passed_at f e l (n + 1)
+pub entry_passed : (f : List ℕ) (e l n : ℕ) → kind_of (word_at f (place_in f e l n)) ≡ 4
+    → passed f (passed_at f e l n) ≡ passed_at f e l (n + 1)
 unfolding passed passed_at
 entry_passed f e l n k =
     let at : place_in f e l n + entry_words (width_in f) ≡ place_in f e l (n + 1) = omega arith in
@@ -74,6 +76,6 @@ pub next_link : (f : List ℕ) (e l : ℕ) → place_in f e l 0 ≤ words_in f �
     → rest f e l 0 ≡ rest f e (l + 1) 0
 next_link f e l i k a = next f e l 0 i e (l + 1) 0 3 k (λ z. let y : ⊥ = omega arith in y) a (omega arith) (link_passed f e l k)
 
-pub next_entry : (f : List ℕ) (e l n : ℕ) → place_in f e l n ≤ words_in f → kind_of (word_at f (place_in f e l n)) ≡ 4 → asked_at f e l n ≡ 0
-    → rest f e l n ≡ rest f e l (n + 1)
+pub next_entry : (f : List ℕ) (e l n : ℕ) → place_in f e l n ≤ words_in f → kind_of (word_at f (place_in f e l n)) ≡ 4
+    → asked_at f e l n ≡ 0 → rest f e l n ≡ rest f e l (n + 1)
 next_entry f e l n i k a = next f e l n i e l (n + 1) 4 k (λ z. let y : ⊥ = omega arith in y) a (omega arith) (entry_passed f e l n k)

@@ -33,7 +33,8 @@ stored g h t i v l T e = record { long = length-set t i v ∙ T.long; holds = λ
     go p q (no d) = get_or-set_other t i p v 0 d ∙ T.holds p q ∙ sym (e p ∙ simp (ne_eqb p i d))
 
 -- one more record is numbered at its port
-pub numbered : (g : ℕ → ℕ) (n p : ℕ) (t : List ℕ) → p ≡ g n → p < 4096 → Numbers (recent g n) t → Numbers (recent g (n + 1)) (set t p (n + 1))
+pub numbered : (g : ℕ → ℕ) (n p : ℕ) (t : List ℕ) → p ≡ g n → p < 4096 → Numbers (recent g n) t
+    → Numbers (recent g (n + 1)) (set t p (n + 1))
 numbered g n p t h l T =
     rw (recent_more g n)
     (stored (number (recent g n)) (number (g n ∷ recent g n)) t p (n + 1) l T
@@ -47,7 +48,8 @@ counted g n p t h l T =
     (stored (λ q. times q (recent g n)) (λ q. times q (g n ∷ recent g n)) t p (times p (recent g n) + 1) l T
     (λ q. rw (← h) (go q (eqb q p) refl)))
   where
-    go : (q : ℕ) (b : Bool) → eqb q p ≡ b → pick b (times q (recent g n) + 1) (times q (recent g n)) ≡ pick b (times p (recent g n) + 1) (times q (recent g n))
+    go : (q : ℕ) (b : Bool) → eqb q p ≡ b
+        → pick b (times q (recent g n) + 1) (times q (recent g n)) ≡ pick b (times p (recent g n) + 1) (times q (recent g n))
     go q true e = rw (eqb-true q p e)
     go q false e = refl
 

@@ -57,7 +57,8 @@ module _ (f : List ℕ) (e l n : ℕ) where
 
   -- where none of the other kinds can stand, a record in order is the end
   only_end : Ordered f (passed_at f e l n)
-      → (kind_of (word_at f place) ≡ 4 → ⊥) → (n ≡ 0 → kind_of (word_at f place) ≡ 3 → ⊥) → (n ≡ 0 → l ≡ 0 → kind_of (word_at f place) ≡ 2 → ⊥)
+      → (kind_of (word_at f place) ≡ 4 → ⊥) → (n ≡ 0 → kind_of (word_at f place) ≡ 3 → ⊥)
+      → (n ≡ 0 → l ≡ 0 → kind_of (word_at f place) ≡ 2 → ⊥)
       → ends_at f place ≡ true
   unfolding passed_at
   only_end o d4 d3 d2 = is5 (omega (arith, o.low, o.high, is4, is3, is2))

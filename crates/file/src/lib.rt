@@ -2,6 +2,7 @@
 // the crate `questions`, what a record's bytes say in `records`. What follows for an accepted file is in proofs/Accepted.antt. hw is the
 // words of a header in the file, by its version.
 #![tactic(auto)]
+
 ghost use Rattle.std.specs.Prelude.{◌≡◌, ◌<◌, ◌≤◌};
 ghost use Rattle.layout.specs.Words.{words_in};
 ghost use Rattle.layout.specs.Records.{Width, width_in, place_of, place_in, from_of_link, to_of_link, edge_bytes, entry_bytes};

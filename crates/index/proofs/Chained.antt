@@ -88,7 +88,8 @@ module _ (n : ℕ) (port_of : ℕ → ℕ) (first next : ℕ) (apart : first + 4
         where
           go : Dec (port_of e ≡ p) → get_or (set linked (first + port_of e) e) (first + p) 0 ≡ next_with port_of n p e
           go (yes d) =
-              subst (λ (q : ℕ). get_or (set linked (first + port_of e) e) (first + q) 0 ≡ e) d (get_or-set_same linked (first + port_of e) e 0 here)
+              subst (λ (q : ℕ). get_or (set linked (first + port_of e) e) (first + q) 0 ≡ e) d
+              (get_or-set_same linked (first + port_of e) e 0 here)
               ∙ sym (next_back port_of n p e l ∙ ap (λ (b : Bool). cond b e (next_with port_of n p (suc e))) (eq-eqb (port_of e) p d))
           go (no d) =
               get_or-set_other linked (first + port_of e) (first + p) e 0 (λ z. d (omega arith))
@@ -137,7 +138,8 @@ module _ (port_of : ℕ → ℕ) (n p : ℕ) (small : n ≤ no_entry) where
               → those (λ e. eqb (port_of e) p) (positions k (suc j))
               ≡ first_of (λ e. eqb (port_of e) p) k (suc j) ∷ with_port (suc (first_of (λ e. eqb (port_of e) p) k (suc j))))
               → keep_if b j (those (λ e. eqb (port_of e) p) (positions k (suc j)))
-              ≡ cond b j (first_of (λ e. eqb (port_of e) p) k (suc j)) ∷ with_port (suc (cond b j (first_of (λ e. eqb (port_of e) p) k (suc j))))
+              ≡ cond b j (first_of (λ e. eqb (port_of e) p) k (suc j))
+              ∷ with_port (suc (cond b j (first_of (λ e. eqb (port_of e) p) k (suc j))))
           by true m ih = rw (let d : n - suc j ≡ k = omega arith in d)
           by false m ih = ih m
 

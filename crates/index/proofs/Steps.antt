@@ -84,7 +84,8 @@ module _ (f : List ℕ) (s : Shape) (ok : Accepted f s) (cells : List ℕ) where
 
       ranked : (k : ℕ) → e ≤ k → k < (fabric_in f).entries → Dec (k ≡ e)
           → get_or (set chained (ranks + e) (priority_of (fabric_in f) e)) (ranks + k) 0 ≡ priority_of (fabric_in f) k
-      ranked k l m (yes d) = rw d (get_or-set_same chained (ranks + e) (priority_of (fabric_in f) e) 0 (simp length-set (omega (arith, few))))
+      ranked k l m (yes d) =
+          rw d (get_or-set_same chained (ranks + e) (priority_of (fabric_in f) e) 0 (simp length-set (omega (arith, few))))
       ranked k l m (no d) =
           get_or-set_other chained (ranks + e) (ranks + k) (priority_of (fabric_in f) e) 0 (λ z. d (omega arith))
           ∙ unchained (ranks + k) (λ a b. omega arith)

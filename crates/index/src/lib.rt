@@ -1,5 +1,6 @@
 // The index of an accepted file, made once a call: see specs/Index.antt.
 #![tactic(auto)]
+
 ghost use Rattle.std.specs.Prelude.{◌≡◌, suc, ◌+◌, ◌<◌, get_or, replicate};
 ghost use Rattle.file.specs.Accepted.{Accepted};
 ghost use Rattle.index.specs.Chains.{no_entry};

@@ -16,7 +16,8 @@ use Rattle.questions.specs.Questions.{pick}
 use Rattle.questions.specs.Tables.{number}
 use Rattle.questions.proofs.Lists.{number_is, number_has}
 use Rattle.file.specs.Accepted.{Accepted}
-use Rattle.file.proofs.Accepted.{edge_port_low, link_from_low, link_to_low, froms_differ, tos_differ, no_edge_at_from, no_edge_at_to, edge_of, entry_of}
+use Rattle.file.proofs.Accepted.{edge_port_low, link_from_low, link_to_low, froms_differ, tos_differ}
+use Rattle.file.proofs.Accepted.{no_edge_at_from, no_edge_at_to, edge_of, entry_of}
 use Rattle.forwarding.specs.Fabric as Forwarding
 use Rattle.forwarding.specs.Fabric.{Sound}
 use Rattle.model.specs.Model.{under, entry_from, no_entry, edge_at, link_beginning, link_ending, fabric_of, fabric_in}
@@ -59,7 +60,8 @@ module _ (f : List ℕ) (s : Shape) (ok : Accepted f s) where
   sound_of = record {
     two_words = omega (arith, (width_is f).low);
     zero_no_edge = no_edge ((fabric_of f s).is_edge 0) refl;
-    zero_begins_none = across_none froms tos s.links (tos_differ f s ok) (link_from_low f s ok) 0 (no_link_at_zero froms (link_from_low f s ok));
+    zero_begins_none =
+        across_none froms tos s.links (tos_differ f s ok) (link_from_low f s ok) 0 (no_link_at_zero froms (link_from_low f s ok));
     zero_ends_none = across_none tos froms s.links (froms_differ f s ok) (link_to_low f s ok) 0 (no_link_at_zero tos (link_to_low f s ok));
     begins_once = λ x y. across_back tos froms s.links (froms_differ f s ok) (link_to_low f s ok) x y;
     ends_once = λ y x. across_back froms tos s.links (tos_differ f s ok) (link_from_low f s ok) y x;

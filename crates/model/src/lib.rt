@@ -1,6 +1,7 @@
 // The entries of an accepted file that may take a header, and what befalls one that none takes. What a file's fabric is, is in
 // specs/Model.antt.
 #![tactic(auto)]
+
 ghost use Rattle.std.specs.Prelude.{◌≡◌, ℕ, ◌≤◌, ◌<◌, leb};
 ghost use Rattle.wide.specs.Forms.{words_of};
 ghost use Rattle.file.specs.Accepted.{Accepted};

@@ -1,6 +1,5 @@
 -- `keeps` meets its contract, by the three transfers.
 use mathlib.Core.Path.{sym, ap, ◌∙◌}
-use borrow.Author.Rules.{rules}
 use Rattle.entries.specs.Entries.{keeps}
 use Rattle.entries.proofs.keeps.Goals as goal
 

@@ -6,7 +6,6 @@ use Rattle.layout.specs.Records.{match_at}
 use Rattle.wide.specs.Forms.{wide_words, wide_of, stored_at}
 use Rattle.wide.proofs.Entries.{match_stored}
 use Rattle.entries.proofs.Entries.{entry_long, match_is}
-use borrow.Author.Rules.{rules}
 use Rattle.entries.proofs.meets.Goals as goal
 
 pub meets-requires : goal.meets-requires

@@ -9,7 +9,10 @@ width-hw-requires c = omega (arith, accepted.edge_inside _ _ c.requires.is_accep
 
 pub place-requires : goal.place-requires
 place-requires c =
-    record { width = width_said _ c.width-hw.ensures; n_bound = rw c.width-hw.ensures (accepted.edge_place _ _ c.requires.is_accepted _ c.requires.below) }
+    record {
+      width = width_said _ c.width-hw.ensures;
+      n_bound = rw c.width-hw.ensures (accepted.edge_place _ _ c.requires.is_accepted _ c.requires.below);
+    }
 
 pub edge_words-requires : goal.edge_words-requires
 edge_words-requires c = width_said _ c.width-hw.ensures
@@ -19,4 +22,4 @@ part-requires c =
     rw (c.place.ensures, c.edge_words.ensures, c.width-hw.ensures) (accepted.edge_inside _ _ c.requires.is_accepted _ c.requires.below)
 
 pub returns : goal.returns
-returns c = rw (c.place.ensures, c.edge_words.ensures, c.width-hw.ensures) c c.part.ensures
+returns c = rw (c.place.ensures, c.edge_words.ensures, c.width-hw.ensures) at c.part.ensures

@@ -1,8 +1,5 @@
 use Rattle.layout.proofs.Widths.{width_said}
-use Rattle.file.proofs.Loops.{EdgesSoFar}
-use Prim.Native.Nat.{◌-◌}
 use Rattle.file.proofs.Loops as loops
-use borrow.Author.Rules.{rules}
 use native.Mathlib.Omega.{arith}
 use Rattle.file.proofs.edges.Goals as goal
 

@@ -1,10 +1,6 @@
--- The loop has `EdgesSoFar` in hand; each way out is a law of proofs/Loops.antt. t is the place after the test of the kind.
-use Rattle.layout.proofs.Widths.{width_said}
+-- The loop has `EdgesSoFar` in hand; each way out is a law of proofs/Loops.antt.
 use Rattle.file.proofs.Loops.{EdgesSoFar}
 use Prim.Native.Nat.{◌-◌}
-use Rattle.file.proofs.Loops as loops
-use borrow.Author.Rules.{rules}
-use native.Mathlib.Omega.{arith}
 use Rattle.file.proofs.edges.Given as goal
 
 abbrev pub invariant-loop-at : goal.invariant-loop-at

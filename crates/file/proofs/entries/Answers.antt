@@ -1,15 +1,12 @@
 use Rattle.layout.proofs.Widths.{width_said}
-use Rattle.file.proofs.Loops.{EntriesSoFar}
-use Prim.Native.Nat.{◌-◌}
 use Rattle.file.proofs.Loops as loops
-use borrow.Author.Rules.{rules}
 use native.Mathlib.Omega.{arith}
 use Rattle.file.proofs.entries.Goals as goal
 
 pub place-at-requires : goal.place-at-requires
 place-at-requires c =
-    loops.place_fits _ _ _ _ _ c.requires.hw_value c.requires.bounded c.requires.l_bound
-    -- TODO record ['width', 'n_bound']
+    let fits = loops.place_fits _ _ _ _ _ c.requires.hw_value c.requires.bounded c.requires.l_bound in
+    record { width = fits.0; n_bound = fits.1 }
 
 pub loop-at-init : goal.loop-at-init
 loop-at-init c = loops.entries_start _ _ _ _ _ c.requires.hw_value c.place-at.ensures c.requires.l_bound

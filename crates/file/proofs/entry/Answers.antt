@@ -13,8 +13,9 @@ entry_words-requires c = width_said _ (accepted.words_said _ _ c.requires.accept
 
 pub part-requires : goal.part-requires
 part-requires c =
-    rw (c.place.ensures, c.entry_words.ensures, accepted.words_said _ _ c.requires.accepted) (accepted.entry_inside _ _ c.requires.accepted _ c.requires.i_lt_entries)
+    rw (c.place.ensures, c.entry_words.ensures, accepted.words_said _ _ c.requires.accepted)
+    (accepted.entry_inside _ _ c.requires.accepted _ c.requires.i_lt_entries)
 
 pub returns : goal.returns
 returns c =
-    rw (c.place.ensures, c.entry_words.ensures, accepted.words_said _ _ c.requires.accepted) c c.part.ensures
+    rw (c.place.ensures, c.entry_words.ensures, accepted.words_said _ _ c.requires.accepted) at c.part.ensures

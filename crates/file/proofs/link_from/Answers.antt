@@ -1,7 +1,6 @@
 -- An accepted file has room for the link where `place_of` says.
 use Rattle.layout.proofs.Widths.{width_said}
 use Rattle.file.proofs.Accepted as accepted
-use borrow.Author.Rules.{rules}
 use Rattle.file.proofs.link_from.Goals as goal
 
 pub place-requires : goal.place-requires

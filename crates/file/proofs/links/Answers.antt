@@ -1,14 +1,11 @@
-use Rattle.file.proofs.Loops.{LinksSoFar}
-use Prim.Native.Nat.{◌-◌}
 use Rattle.file.proofs.Loops as loops
-use borrow.Author.Rules.{rules}
 use native.Mathlib.Omega.{arith}
 use Rattle.file.proofs.links.Goals as goal
 
 pub place-at-requires : goal.place-at-requires
 place-at-requires c =
-    loops.place_fits _ _ _ _ _ c.requires.hw_value c.requires.bounded c.requires.e_bound
-    -- TODO record ['width', 'n_bound']
+    let fits = loops.place_fits _ _ _ _ _ c.requires.hw_value c.requires.bounded c.requires.e_bound in
+    record { width = fits.0; n_bound = fits.1 }
 
 pub loop-at-init : goal.loop-at-init
 loop-at-init c =
@@ -31,7 +28,8 @@ link_no-no-requires c =
 pub returns-then-no-ne0 : goal.returns-then-no-ne0
 returns-then-no-ne0 c =
     let s = c.loop-at.invariant in
-    record { run_read = loops.refused _ _ _ _ _ _ _ _ s.so_far _ _ c.link_no-no.ensures c.if-no-ne0.true; start_table = s.start_at; end_table = s.end_at }
+    let read = loops.refused _ _ _ _ _ _ _ _ s.so_far _ _ c.link_no-no.ensures c.if-no-ne0.true in
+    record { run_read = read; start_table = s.start_at; end_table = s.end_at }
 
 pub loop-at-preserved : goal.loop-at-preserved
 loop-at-preserved c =

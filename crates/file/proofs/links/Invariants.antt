@@ -1,9 +1,6 @@
--- The loop has `LinksSoFar` in hand; each way out is a law of proofs/Loops.antt. t is the place after the test of the kind.
+-- The loop has `LinksSoFar` in hand; each way out is a law of proofs/Loops.antt.
 use Rattle.file.proofs.Loops.{LinksSoFar}
 use Prim.Native.Nat.{◌-◌}
-use Rattle.file.proofs.Loops as loops
-use borrow.Author.Rules.{rules}
-use native.Mathlib.Omega.{arith}
 use Rattle.file.proofs.links.Given as goal
 
 abbrev pub invariant-loop-at : goal.invariant-loop-at

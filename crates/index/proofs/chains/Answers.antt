@@ -1,5 +1,5 @@
 use mathlib.Core.Path.{◌≡◌, subst}
-use Prim.Native.Nat.{ℕ, suc, ◌-◌, ◌≤◌}
+use Prim.Native.Nat.{ℕ, suc, ◌-◌}
 use borrow.Author.Rules.{rules}
 use native.Mathlib.Omega.{arith}
 use Rattle.index.specs.Building.{Partly}
@@ -13,7 +13,11 @@ pub chain_entry-requires : goal.chain_entry-requires
 chain_entry-requires c =
     let l = c.loop-e in
     let back : l.e ≡ suc (l.e - 1) = omega arith in
-    record { accepted = c.requires.accepted; e_lt_entries = search rules; partly = subst (λ (e : ℕ). Partly c.args.file.now e l.index) back l.invariant.1 }
+    record {
+      accepted = c.requires.accepted;
+      e_lt_entries = search rules;
+      partly = subst (λ (e : ℕ). Partly c.args.file.now e l.index) back l.invariant.1;
+    }
 
 pub loop-e-preserved : goal.loop-e-preserved
 loop-e-preserved c = (search rules, c.chain_entry.ensures)

@@ -1,10 +1,6 @@
 -- `chains` meets its contract. The loop's invariant: the entries from `e` on are chained.
-use mathlib.Core.Path.{◌≡◌, subst}
-use Prim.Native.Nat.{ℕ, suc, ◌-◌, ◌≤◌}
-use borrow.Author.Rules.{rules}
-use native.Mathlib.Omega.{arith}
+use Prim.Native.Nat.{◌≤◌}
 use Rattle.index.specs.Building.{Partly}
-use Rattle.index.proofs.Steps.{partly_all}
 use Rattle.index.proofs.chains.Given as goal
 
 abbrev pub invariant-loop-e : goal.invariant-loop-e

@@ -1,10 +1,6 @@
 -- `clear_places` meets its contract. The loop's invariant: the ports passed have no place.
-use mathlib.Core.Path.{◌≡◌, subst}
-use Prim.Native.Nat.{ℕ, ◌-◌, ◌≤◌}
-use borrow.Author.Rules.{rules}
-use native.Mathlib.Omega.{arith}
+use Prim.Native.Nat.{◌-◌, ◌≤◌}
 use Rattle.index.specs.Building.{no_place, Placed}
-use Rattle.index.proofs.Placed.{placed_cleared}
 use Rattle.index.proofs.clear_places.Given as goal
 
 abbrev pub invariant-loop-x : goal.invariant-loop-x

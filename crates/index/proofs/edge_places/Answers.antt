@@ -1,10 +1,9 @@
 use mathlib.Core.Path.{◌≡◌, ap, ◌∙◌}
-use Prim.Native.Nat.{◌-◌, ◌≤◌}
 use borrow.Author.Rules.{rules}
 use native.Mathlib.Omega.{arith}
 use Rattle.layout.specs.Records.{edge_port}
 use Rattle.file.proofs.Accepted.{few_edges, edge_of, edge_port_is}
-use Rattle.index.specs.Building.{place_after, Placed}
+use Rattle.index.specs.Building.{place_after}
 use Rattle.index.proofs.Placed.{edge_placed}
 use Rattle.index.proofs.edge_places.Goals as goal
 

@@ -1,12 +1,6 @@
 -- `edge_places` meets its contract. The loop's invariant: the places are as the edges passed have it.
-use mathlib.Core.Path.{◌≡◌, ap, ◌∙◌}
 use Prim.Native.Nat.{◌-◌, ◌≤◌}
-use borrow.Author.Rules.{rules}
-use native.Mathlib.Omega.{arith}
-use Rattle.layout.specs.Records.{edge_port}
-use Rattle.file.proofs.Accepted.{few_edges, edge_of, edge_port_is}
 use Rattle.index.specs.Building.{place_after, Placed}
-use Rattle.index.proofs.Placed.{edge_placed}
 use Rattle.index.proofs.edge_places.Given as goal
 
 abbrev pub invariant-loop-k : goal.invariant-loop-k

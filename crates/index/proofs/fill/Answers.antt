@@ -1,6 +1,5 @@
 -- `fill` meets its contract: an array of 'no entry' everywhere gets the places, and then the chains.
 use mathlib.Core.Path.{sym, subst}
-use borrow.Author.Rules.{rules}
 use Rattle.index.specs.Building.{no_place, Placed}
 use Rattle.index.proofs.Placed.{placed_none}
 use Rattle.index.proofs.Steps.{partly_none}

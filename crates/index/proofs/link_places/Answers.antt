@@ -1,8 +1,6 @@
 use mathlib.Core.Path.{◌≡◌}
-use Prim.Native.Nat.{◌-◌, ◌≤◌}
 use borrow.Author.Rules.{rules}
 use native.Mathlib.Omega.{arith}
-use Rattle.index.specs.Building.{place_after, Placed}
 use Rattle.index.proofs.Placed.{link_placed, all_placed}
 use Rattle.index.proofs.link_places.Goals as goal
 

@@ -1,10 +1,6 @@
 -- `link_places` meets its contract. The loop's invariant: the places are as all edges and the links passed have it.
-use mathlib.Core.Path.{◌≡◌}
 use Prim.Native.Nat.{◌-◌, ◌≤◌}
-use borrow.Author.Rules.{rules}
-use native.Mathlib.Omega.{arith}
 use Rattle.index.specs.Building.{place_after, Placed}
-use Rattle.index.proofs.Placed.{link_placed, all_placed}
 use Rattle.index.proofs.link_places.Given as goal
 
 abbrev pub invariant-loop-l : goal.invariant-loop-l

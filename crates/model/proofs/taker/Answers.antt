@@ -1,6 +1,6 @@
 use mathlib.Core.Bool.{false}
 use mathlib.Core.Path.{◌≡◌, subst}
-use Prim.Native.Nat.{ℕ, ◌-◌, ◌≤◌}
+use Prim.Native.Nat.{ℕ}
 use borrow.Author.Rules.{rules}
 use native.Mathlib.Omega.{arith}
 use Rattle.forwarding.specs.Best.{BestSoFar}
@@ -12,15 +12,14 @@ use Rattle.model.proofs.EntryRead.{entries_are}
 use Rattle.model.proofs.taker.Goals as goal
 
 pub loop-i-init : goal.loop-i-init
-loop-i-init c =
-    (
-      search rules,
-      search rules,
-      search rules,
-      subst (λ (b : ℕ). BestSoFar (wide_in c.args.file.now) c.args.x (words_of c.args.h) 0 b false)
-          (entries_are c.args.file.now c.args.shape c.requires)
-          (best_start (wide_in c.args.file.now) c.args.x (words_of c.args.h)),
-    )
+loop-i-init c = (
+  search rules,
+  search rules,
+  search rules,
+  subst (λ (b : ℕ). BestSoFar (wide_in c.args.file.now) c.args.x (words_of c.args.h) 0 b false)
+      (entries_are c.args.file.now c.args.shape c.requires)
+      (best_start (wide_in c.args.file.now) c.args.x (words_of c.args.h)),
+)
 
 pub loop-i-preserved : goal.loop-i-preserved
 loop-i-preserved c =
