@@ -6,7 +6,9 @@ use Rattle.answer.specs.Answer.{written_at}
 use Rattle.answer.proofs.put_words.Given as goal
 
 abbrev pub invariant-loop-i : goal.invariant-loop-i
-invariant-loop-i l = (l.i ≤ length l.words) × (length l.area ≡ length l.initial.area) × (l.area ≡ written_at l.at (take l.i l.words) l.initial.area)
+invariant-loop-i l =
+    (l.i ≤ length l.words) × (length l.area ≡ length l.initial.area)
+    × (l.area ≡ written_at l.at (take l.i l.words) l.initial.area)
 
 abbrev pub decreases-loop-i : goal.decreases-loop-i
 decreases-loop-i l = length l.words - l.i
