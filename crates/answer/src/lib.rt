@@ -1,6 +1,7 @@
 // Answers are little-endian words in the area lent; how many a verdict's or a run's has. Document 01, the last paragraph of "The
 // back-trace and its count".
 #![tactic(auto)]
+
 ghost use Rattle.std.specs.Prelude.{◌≡◌, [], ◌∷◌, ◌+◌, ◌*◌, ◌≤◌, length, take};
 ghost use Rattle.layout.specs.Records.{Width};
 ghost use Rattle.wide.specs.Forms.{words_of};

@@ -1,6 +1,7 @@
 // What a set of w words that stands in some bytes, from word k on, leaves of a header set of eight words, part by part: document 01's
 // parts, in its order, those of the first four words before those of the last four. Document 02, 2.6.
 #![tactic(auto)]
+
 ghost use Rattle.std.specs.Prelude.{true, false, ◌≡◌};
 ghost use Rattle.headers.specs.Bits.{no_bit};
 ghost use Rattle.headers.specs.Sets.{outside};

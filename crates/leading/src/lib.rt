@@ -1,6 +1,7 @@
 // The first part that a set of w words, which stands in some bytes from word k on, leaves of a header set of eight words. Document 01's
 // order: parts of the first four words before those of the last four. Document 02, 2.6.
 #![tactic(auto)]
+
 ghost use Rattle.std.specs.Prelude.{false, ◌&&◌, ◌≡◌};
 ghost use mathlib.Core.List.{head?};
 ghost use Rattle.std.proofs.Math.Option.{some};

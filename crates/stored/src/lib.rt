@@ -1,6 +1,7 @@
 // A header or a header set of eight words with a set of w words that stands in some bytes, from word k on. Document 02, 2.6. The last four
 // words are looked at only where the file has them, and where the first four leave the answer open.
 #![tactic(auto)]
+
 ghost use Rattle.std.proofs.Math.Option.{some, none};
 ghost use Rattle.std.specs.Prelude.{◌≡◌};
 ghost use Rattle.headers.specs.Sets.{beside, contains, overlaps, intersection, undone};

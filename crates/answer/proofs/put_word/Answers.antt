@@ -1,5 +1,4 @@
 -- `put_word` meets its contract: four stores, one after the other, are the word's bytes.
-use borrow.Author.Rules.{rules}
 use lib.ListN.{length-set}
 use native.Mathlib.Omega.{arith}
 use Rattle.answer.proofs.Written.{stored_word}

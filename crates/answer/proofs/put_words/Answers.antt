@@ -1,6 +1,6 @@
 use mathlib.Core.List.{List}
 use mathlib.Core.Path.{◌≡◌, sym, ap, ◌∙◌}
-use Prim.Native.Nat.{ℕ, ◌-◌, ◌≤◌}
+use Prim.Native.Nat.{ℕ}
 use borrow.Author.Rules.{rules}
 use lib.ListN.{length, take}
 use lib.Seq.{take-length}
@@ -18,11 +18,12 @@ loop-i-preserved c =
     let l = c.loop-i in (
       search rules,
       search rules,
-      c.put_word.ensures ∙ written_more a.at l.i a.words.now a.area.now l.area-1 (search rules) (search rules) l.invariant.2,
+      c.put_word.ensures ∙ written_more a.at l.i a.words.now a.area.now l.area (search rules) (search rules) l.invariant.2,
     )
 
 pub returns : goal.returns
 returns c =
     let a = c.args in
     let all : c.loop-i.i ≡ length a.words.now = omega arith in
-    c.loop-i.invariant.2 ∙ ap (λ (l : List ℕ). written_at a.at l a.area.now) (ap (λ (k : ℕ). take k a.words.now) all ∙ take-length a.words.now)
+    c.loop-i.invariant.2
+    ∙ ap (λ (l : List ℕ). written_at a.at l a.area.now) (ap (λ (k : ℕ). take k a.words.now) all ∙ take-length a.words.now)

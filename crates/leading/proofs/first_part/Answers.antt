@@ -1,6 +1,5 @@
 -- `first_part` meets its contract.
 use mathlib.Core.Path.{sym, ◌∙◌}
-use borrow.Author.Rules.{rules}
 use Rattle.wide.proofs.Arrays.{set_fours}
 use Rattle.carving.proofs.Cuts.{all_held}
 use Rattle.leading.proofs.first_part.Goals as goal

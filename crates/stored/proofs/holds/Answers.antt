@@ -1,7 +1,5 @@
 -- `holds` meets its contract: the header's halves are in those of the set; of four words the first half decides.
 use mathlib.Core.Path.{sym, ◌∙◌}
-use borrow.Author.Rules.{rules}
-use borrow.Author.Tests.{not-true, not-false}
 use Rattle.wide.proofs.Arrays.{header_halves}
 use Rattle.wide.proofs.Halves.{holds_halves, wild_contains}
 use Rattle.wide.proofs.Answers.{refused_first, left_to_last}
@@ -10,22 +8,22 @@ use Rattle.stored.proofs.holds.Goals as goal
 pub returns-then-not-contains : goal.returns-then-not-contains
 returns-then-not-contains c =
     let f = header_halves c.args.h c.well_formed.1.1.1.0 in
-    let is = holds_halves c.requires f.low-1 f.high-1 in
+    let is = holds_halves c.requires f.low f.high in
     let low = rw c.low_at.ensures at c.contains.ensures in
-    refused_first _ _ _ is (sym low ∙ not-true _ c.if-not-contains.true)
+    refused_first _ _ _ is (sym low ∙ c.if-not-contains.true)
 
 pub returns-then-w-eq-HALF : goal.returns-then-w-eq-HALF
 returns-then-w-eq-HALF c =
     let f = header_halves c.args.h c.well_formed.1.1.1.0 in
-    let is = holds_halves c.requires f.low-1 f.high-1 in
+    let is = holds_halves c.requires f.low f.high in
     let low = rw c.low_at.ensures at c.contains.ensures in
-    sym (wild_contains c.requires c.if-w-eq-HALF.true c.args.h.high-1)
-    ∙ left_to_last _ _ _ is (sym low ∙ not-false _ c.if-not-contains.false)
+    sym (wild_contains c.requires c.if-w-eq-HALF.true c.args.h.high)
+    ∙ left_to_last _ _ _ is (sym low ∙ c.if-not-contains.false)
 
 pub returns : goal.returns
 returns c =
     let f = header_halves c.args.h c.well_formed.1.1.1.0 in
-    let is = holds_halves c.requires f.low-1 f.high-1 in
+    let is = holds_halves c.requires f.low f.high in
     let low = rw c.low_at.ensures at c.contains.ensures in
     rw c.high_at.ensures at c.contains-2.ensures
-    ∙ left_to_last _ _ _ is (sym low ∙ not-false _ c.if-not-contains.false)
+    ∙ left_to_last _ _ _ is (sym low ∙ c.if-not-contains.false)

@@ -1,6 +1,5 @@
 -- `met` meets its contract: what each half has in common; of four words the last four stay as they are.
 use mathlib.Core.Path.{◌∙◌}
-use borrow.Author.Rules.{rules}
 use borrow.Author.Tests.{not-true, not-false}
 use Rattle.wide.proofs.Arrays.{set_fours}
 use Rattle.wide.proofs.Halves.{met_halves, wild_met}

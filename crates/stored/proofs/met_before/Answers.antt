@@ -1,6 +1,5 @@
 -- `met_before` meets its contract: a transfer moves words of the first half alone.
 use mathlib.Core.Path.{◌∙◌}
-use borrow.Author.Rules.{rules}
 use borrow.Author.Tests.{not-true, not-false}
 use Rattle.wide.proofs.Arrays.{set_fours}
 use Rattle.wide.proofs.Halves.{before_halves, wild_met}

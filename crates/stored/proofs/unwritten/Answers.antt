@@ -1,6 +1,5 @@
 -- `unwritten` meets its contract: each half before its rewrite; of four words the last four stay as they are.
 use mathlib.Core.Path.{◌∙◌}
-use borrow.Author.Rules.{rules}
 use borrow.Author.Tests.{not-true, not-false}
 use Rattle.wide.proofs.Arrays.{set_fours}
 use Rattle.wide.proofs.Halves.{undone_halves, wild_undone}
