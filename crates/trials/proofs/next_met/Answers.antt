@@ -1,5 +1,5 @@
 -- `next_met` meets its contract: `tried` does, from where the entries begin and with the words that a header has.
-use Rattle.std.proofs.Common.{sym, ◌∙◌}
+use mathlib.Core.Path.{sym, ◌∙◌}
 use Rattle.trials.proofs.Asks.{asked_entries}
 use Rattle.trials.proofs.next_met.Goals as goal
 
