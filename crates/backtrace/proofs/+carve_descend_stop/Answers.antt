@@ -1,4 +1,4 @@
-use mathlib.Core.Bool.{Bool, false}
+use mathlib.Core.Bool.{Bool}
 use mathlib.Core.List.{List}
 use mathlib.Core.Path.{◌≡◌, sym, ap, ◌∙◌, subst}
 use Prim.Native.Nat.{ℕ, suc, ◌+◌, ◌-◌, ◌≤◌, ◌<◌}
@@ -17,15 +17,15 @@ use Rattle.carving.proofs.Cuts.{done_exactly}
 use Rattle.forwarding.specs.Fabric.{in_port_of, outranks}
 use Rattle.model.specs.Model.{fabric_in, wide_in}
 use Rattle.index.specs.Chains.{no_entry}
-use Rattle.index.specs.Index.{first_in, next_in}
+use Rattle.index.specs.Index.{first_in, next_in, next_out}
 use Rattle.index.proofs.Chained.{Next}
 use Rattle.entries.specs.Entries.{IsEntry, OfChain}
 use Rattle.entries.proofs.Entries.{entries_few}
 use Rattle.entries.proofs.InChains.{chain_head, next_in_chain}
 use Rattle.entries.proofs.Backs.{back_empty, back_moved, back_kept}
-use Rattle.events.specs.Asked.{words_asked, UnitMade}
-use Rattle.trials.specs.Trials.{Met}
-use Rattle.backtrace.specs.Cycle.{Tracing}
+use Rattle.events.specs.Asked.{budget_of, words_asked, UnitMade}
+use Rattle.trials.specs.Trials.{Met, NextMet, trials_from}
+use Rattle.backtrace.specs.Cycle.{Tracing, Ended}
 use Rattle.backtrace.proofs.Paths.{kept_same, kept_on}
 use Rattle.backtrace.proofs.Tracings.{entry_as_long, match_there, after_unit, after_push}
 use Rattle.backtrace.proofs.Trying.{part_ended, part_later, after_trials, part_traced}
@@ -51,6 +51,13 @@ of_chain : {f ask index : List ℕ} {d : ℕ} {path counters area : List ℕ} �
     → {x j i : ℕ} → Next (in_port_of (fabric_in f)) (fabric_in f).entries x j i → OfChain (fabric_in f).entries i
 of_chain t along = (next_in_chain (entries_few t.asked.fabric) along).of_chain
 
+-- what `descend` asks of a part whose trials ended, beside the measure
+ended_at : {f ask index : List ℕ} {d : ℕ} {path counters area : List ℕ} (t : Tracing f ask index d path counters area)
+    {x : ℕ} (q : ℕ) (p : Set) {j i : ℕ} → Next (in_port_of (fabric_in f)) (fabric_in f).entries x j i → {counters' : List ℕ} {r : ℕ}
+    → NextMet (trials_from (wide_in f) (budget_of ask) q i p (get_or counters 0 0)) counters r counters'
+    → x < 4096 → Tracing f ask index d path counters' area × (x < 4096 × Ended f ask x p counters' r)
+ended_at t q p along n l = (after_trials t _ q p along n, (l, part_ended t _ q p along n))
+
 -- ---- `carve`
 
 -- the next entry of the chain
@@ -62,8 +69,8 @@ after_entry t met = next_along t.asked.fabric t.indexed met _
 -- bits are free, exactly if the cut has some
 left_exactly : {f ask index : List ℕ} {x q b d : ℕ} {path₀ counters₀ area₀ : List ℕ} {w : ℕ} {y : List ℕ} {c₀ : Cut}
     {path counters area : List ℕ} {c : Cut} → AtCut f ask index x q b d path₀ counters₀ area₀ w y c₀ path counters area c
-    → Stored y match_at w → no_bit wide_words (free_left w y match_at c) ≡ no_bit half c.free
-left_exactly at stored = sym (done_exactly stored at.is_cut at.fours)
+    → w ≡ words_asked ask → IsEntry f b y → no_bit wide_words (free_left w y match_at c) ≡ no_bit half c.free
+left_exactly at width is = sym (done_exactly (match_in at.at_part.tracing width is) at.is_cut at.fours)
 
 pub carve-next_in-next-requires : goal.carve-next_in-next-requires
 carve-next_in-next-requires t c = omega (arith, c.requires.met.is_entry, entries_few c.requires.tracing.asked.fabric)
@@ -87,21 +94,12 @@ carve-loop-x-init t c =
 pub carve-part-part-requires-clause-stored : goal.carve-part-part-requires-clause-stored
 carve-part-part-requires-clause-stored t c = match_in c.requires.tracing c.asked-w.ensures c.entry_at-x.ensures
 
-pub carve-part-part-requires-clause-cut : goal.carve-part-part-requires-clause-cut
-carve-part-part-requires-clause-cut t c = c.loop-x.invariant.is_cut
-
 pub carve-is_last-requires-clause-stored : goal.carve-is_last-requires-clause-stored
 carve-is_last-requires-clause-stored t c = match_in c.requires.tracing c.asked-w.ensures c.entry_at-x.ensures
-
-pub carve-is_last-requires-clause-cut : goal.carve-is_last-requires-clause-cut
-carve-is_last-requires-clause-cut t c = c.loop-x.invariant.is_cut
 
 pub carve-next_met-k-requires-clause-of_chain : goal.carve-next_met-k-requires-clause-of_chain
 carve-next_met-k-requires-clause-of_chain t c =
     of_chain c.requires.tracing (after_entry c.requires.tracing c.requires.met c.next_in-next.ensures)
-
-pub carve-next_met-k-requires-clause-counters_len : goal.carve-next_met-k-requires-clause-counters_len
-carve-next_met-k-requires-clause-counters_len t c = c.loop-x.invariant.at_part.tracing.room.counters_long
 
 pub carve-descend-requires : goal.carve-descend-requires
 carve-descend-requires t c =
@@ -111,22 +109,17 @@ carve-descend-requires t c =
     let later = part_later now_at _ c.args.least (wide_of c.part-part.result) along
     c.next_met-k.ensures (omega (arith, c.requires.met.is_entry)) in (
       omega (arith, c.decreases, c.requires.met.is_entry),
-      (
-        after_trials now_at _ c.args.least (wide_of c.part-part.result) along c.next_met-k.ensures,
-        (
-          c.requires.port_bound,
-          part_ended now_at _ c.args.least (wide_of c.part-part.result) along c.next_met-k.ensures,
-        ),
-      ),
+      ended_at now_at c.args.least (wide_of c.part-part.result) along c.next_met-k.ensures c.requires.port_bound,
     )
 
 pub carve-returns-then-is_last-clause-traced : goal.carve-returns-then-is_last-clause-traced
 carve-returns-then-is_last-clause-traced t c =
-    let stored = match_in c.requires.tracing c.asked-w.ensures c.entry_at-x.ensures in
     let along = after_entry c.requires.tracing c.requires.met c.next_in-next.ensures in
     let at = c.loop-x.invariant.at_part in
     cut_traced _ _ _ _ _ (ap wide_of c.first_cut-cut.ensures.set_value)
-    (part_last at (left_exactly c.loop-x.invariant stored ∙ sym c.is_done.ensures ∙ c.loop-x-test.true) c.part-part.ensures
+    (part_last at
+    (left_exactly c.loop-x.invariant c.asked-w.ensures c.entry_at-x.ensures ∙ sym c.is_done.ensures ∙ c.loop-x-test.true)
+    c.part-part.ensures
     (part_traced at.tracing _ c.args.least (wide_of c.part-part.result) along c.next_met-k.ensures _ _ c.descend.ensures.traced)
     (sym c.is_last.ensures ∙ c.if-is_last.true))
 
@@ -136,15 +129,9 @@ carve-returns-then-is_last-clause-kept t c = kept_on c.loop-x.invariant.at_part.
 pub carve-next_cut-cut-requires-clause-stored : goal.carve-next_cut-cut-requires-clause-stored
 carve-next_cut-cut-requires-clause-stored t c = match_in c.requires.tracing c.asked-w.ensures c.entry_at-x.ensures
 
-pub carve-next_cut-cut-requires-clause-cut : goal.carve-next_cut-cut-requires-clause-cut
-carve-next_cut-cut-requires-clause-cut t c = c.loop-x.invariant.is_cut
-
 pub carve-next_met-k-requires-in-loop-x-clause-of_chain : goal.carve-next_met-k-requires-in-loop-x-clause-of_chain
 carve-next_met-k-requires-in-loop-x-clause-of_chain t c =
     of_chain c.requires.tracing (after_entry c.requires.tracing c.requires.met c.next_in-next.ensures)
-
-pub carve-next_met-k-requires-in-loop-x-clause-counters_len : goal.carve-next_met-k-requires-in-loop-x-clause-counters_len
-carve-next_met-k-requires-in-loop-x-clause-counters_len t c = c.loop-x.invariant.at_part.tracing.room.counters_long
 
 pub carve-descend-r-requires : goal.carve-descend-r-requires
 carve-descend-r-requires t c =
@@ -154,22 +141,17 @@ carve-descend-r-requires t c =
     let later = part_later now_at _ c.args.least (wide_of c.part-part.result) along
     c.next_met-k-in-loop-x.ensures (omega (arith, c.requires.met.is_entry)) in (
       omega (arith, c.decreases, c.requires.met.is_entry),
-      (
-        after_trials now_at _ c.args.least (wide_of c.part-part.result) along c.next_met-k-in-loop-x.ensures,
-        (
-          c.requires.port_bound,
-          part_ended now_at _ c.args.least (wide_of c.part-part.result) along c.next_met-k-in-loop-x.ensures,
-        ),
-      ),
+      ended_at now_at c.args.least (wide_of c.part-part.result) along c.next_met-k-in-loop-x.ensures c.requires.port_bound,
     )
 
 pub carve-returns-then-r-ne0-clause-traced : goal.carve-returns-then-r-ne0-clause-traced
 carve-returns-then-r-ne0-clause-traced t c =
-    let stored = match_in c.requires.tracing c.asked-w.ensures c.entry_at-x.ensures in
     let along = after_entry c.requires.tracing c.requires.met c.next_in-next.ensures in
     let at = c.loop-x.invariant.at_part in
     cut_traced _ _ _ _ _ (ap wide_of c.first_cut-cut.ensures.set_value)
-    (part_stops at (left_exactly c.loop-x.invariant stored ∙ sym c.is_done.ensures ∙ c.loop-x-test.true) c.part-part.ensures
+    (part_stops at
+    (left_exactly c.loop-x.invariant c.asked-w.ensures c.entry_at-x.ensures ∙ sym c.is_done.ensures ∙ c.loop-x-test.true)
+    c.part-part.ensures
     (part_traced at.tracing _ c.args.least (wide_of c.part-part.result) along c.next_met-k-in-loop-x.ensures _ _ c.descend-r.ensures.traced)
     c.if-r-ne0.true)
 
@@ -178,17 +160,17 @@ carve-returns-then-r-ne0-clause-kept t c = kept_on c.loop-x.invariant.at_part.ke
 
 pub carve-loop-x-smaller : goal.carve-loop-x-smaller
 carve-loop-x-smaller t c =
-    let stored = match_in c.requires.tracing c.asked-w.ensures c.entry_at-x.ensures in
     fewer_parts c.loop-x.invariant.at_part
-    (left_exactly c.loop-x.invariant stored ∙ sym c.is_done.ensures ∙ c.loop-x-test.true) c.next_cut-cut.ensures.set_value
+    (left_exactly c.loop-x.invariant c.asked-w.ensures c.entry_at-x.ensures ∙ sym c.is_done.ensures ∙ c.loop-x-test.true)
+    c.next_cut-cut.ensures.set_value
 
 pub carve-loop-x-preserved : goal.carve-loop-x-preserved
 carve-loop-x-preserved t c =
-    let stored = match_in c.requires.tracing c.asked-w.ensures c.entry_at-x.ensures in
     let along = after_entry c.requires.tracing c.requires.met c.next_in-next.ensures in
     let at = c.loop-x.invariant.at_part in
     record {
-      at_part = part_through at (left_exactly c.loop-x.invariant stored ∙ sym c.is_done.ensures ∙ c.loop-x-test.true)
+      at_part = part_through at
+          (left_exactly c.loop-x.invariant c.asked-w.ensures c.entry_at-x.ensures ∙ sym c.is_done.ensures ∙ c.loop-x-test.true)
           c.part-part.ensures
           (part_traced at.tracing _ c.args.least (wide_of c.part-part.result) along c.next_met-k-in-loop-x.ensures _ _
           c.descend-r.ensures.traced)
@@ -199,21 +181,11 @@ carve-loop-x-preserved t c =
 
 pub carve-returns-clause-traced : goal.carve-returns-clause-traced
 carve-returns-clause-traced t c =
-    let stored = match_in c.requires.tracing c.asked-w.ensures c.entry_at-x.ensures in
     cut_traced _ _ _ _ _ (ap wide_of c.first_cut-cut.ensures.set_value)
     (parts_done c.loop-x.invariant.at_part
-    (left_exactly c.loop-x.invariant stored ∙ sym c.is_done.ensures ∙ c.loop-x-test.false))
-
-pub carve-returns-clause-kept : goal.carve-returns-clause-kept
-carve-returns-clause-kept t c = c.loop-x.invariant.at_part.kept
+    (left_exactly c.loop-x.invariant c.asked-w.ensures c.entry_at-x.ensures ∙ sym c.is_done.ensures ∙ c.loop-x-test.false))
 
 -- ---- `descend`
-
-pub descend-carve-requires : goal.descend-carve-requires
-descend-carve-requires t c = (
-  omega (arith, c.decreases, c.if-b-lt-NO_ENTRY.true),
-  (c.requires.tracing, (c.requires.port_bound, c.requires.ended.entry_met c.if-b-lt-NO_ENTRY.true)),
-)
 
 pub descend-stop-requires : goal.descend-stop-requires
 descend-stop-requires t c =
@@ -247,6 +219,9 @@ module _ {f ask index : List ℕ} {place : ℕ} {s : Set} {d : ℕ} {path₀ cou
       → path₁ ≡ set path (d - 1) e → Tracing f ask index (d - 1) path₁ counters₁ area
   with_entry taken u pushed = after_push (after_unit at.tracing u) at.hop_left taken pushed
 
+  fewer_left : e < no_entry → {n : ℕ} → n ≡ get_or index (next_out + e) 0 → 512 - n < 512 - e
+  fewer_left taken h = omega (arith, later_entry at taken h)
+
 pub stop-returns-then-place-ge-FIRST_EDGE-clause-traced : goal.stop-returns-then-place-ge-FIRST_EDGE-clause-traced
 stop-returns-then-place-ge-FIRST_EDGE-clause-traced t c =
     at_edge _ c.args.d _ c.args.path.now (wide_of c.args.t) _ _ _ c.if-place-ge-FIRST_EDGE.true
@@ -264,18 +239,9 @@ stop-loop-e-init t c =
     first_entry c.requires.tracing _ _ _ _ c.if-place-ge-FIRST_EDGE.false c.if-place-eq0.false c.asked.ensures
     c.if-d-asked.false c.first_out-e.ensures
 
-pub stop-unit-requires : goal.stop-unit-requires
-stop-unit-requires t c = c.loop-e.invariant.tracing.room.counters_long
-
 pub stop-returns-then-not-unit-clause-traced : goal.stop-returns-then-not-unit-clause-traced
 stop-returns-then-not-unit-clause-traced t c =
     entry_refused c.loop-e.invariant c.loop-e-test.true c.unit.ensures c.if-not-unit.true
-
-pub stop-returns-then-not-unit-clause-kept : goal.stop-returns-then-not-unit-clause-kept
-stop-returns-then-not-unit-clause-kept t c = c.loop-e.invariant.kept
-
-pub stop-entry_at-x-requires-clause-e_bound : goal.stop-entry_at-x-requires-clause-e_bound
-stop-entry_at-x-requires-clause-e_bound t c = c.loop-e.invariant.in_chain.of_chain.is_entry c.loop-e-test.true
 
 pub stop-unwritten-u-requires : goal.stop-unwritten-u-requires
 stop-unwritten-u-requires t c = entry_as_long c.loop-e.invariant.tracing c.asked-w.ensures c.entry_at-x.ensures
@@ -304,13 +270,8 @@ stop-descend-r-requires t c =
     let tracing = with_entry at c.loop-e-test.true c.unit.ensures c.push.ensures in
     let along = head_of at (omega (arith, c.in_port-port.ensures)) c.first_in-first.ensures in (
       omega (arith, c.decreases, at.hop_left),
-      (
-        after_trials tracing _ c.least_above-least.result (wide_of c.met-m.result.set) along c.next_met-b.ensures,
-        (
-          omega (arith, c.in_port-port.ensures),
-          part_ended tracing _ c.least_above-least.result (wide_of c.met-m.result.set) along c.next_met-b.ensures,
-        ),
-      ),
+      ended_at tracing c.least_above-least.result (wide_of c.met-m.result.set) along c.next_met-b.ensures
+          (omega (arith, c.in_port-port.ensures)),
     )
 
 pub stop-returns-then-r-ne0-clause-traced : goal.stop-returns-then-r-ne0-clause-traced
@@ -331,8 +292,7 @@ stop-returns-then-r-ne0-clause-kept t c =
     kept_on c.loop-e.invariant.kept (kept_under c.loop-e.invariant c.push.ensures c.descend-r.ensures.kept)
 
 pub stop-loop-e-smaller-else-r-ne0 : goal.stop-loop-e-smaller-else-r-ne0
-stop-loop-e-smaller-else-r-ne0 t c =
-    omega (arith, later_entry c.loop-e.invariant c.loop-e-test.true c.next_out-next.ensures, c.loop-e-test.true)
+stop-loop-e-smaller-else-r-ne0 t c = fewer_left c.loop-e.invariant c.loop-e-test.true c.next_out-next.ensures
 
 pub stop-loop-e-preserved-else-r-ne0 : goal.stop-loop-e-preserved-else-r-ne0
 stop-loop-e-preserved-else-r-ne0 t c =
@@ -348,16 +308,15 @@ stop-loop-e-preserved-else-r-ne0 t c =
     c.descend-r.ensures.traced) c.if-r-ne0.false c.next_out-next.ensures c.descend-r.ensures.kept c.descend-r.auto.area
 
 pub stop-loop-e-smaller-else-m : goal.stop-loop-e-smaller-else-m
-stop-loop-e-smaller-else-m t c =
-    omega (arith, later_entry c.loop-e.invariant c.loop-e-test.true c.next_out-next.ensures, c.loop-e-test.true)
+stop-loop-e-smaller-else-m t c = fewer_left c.loop-e.invariant c.loop-e-test.true c.next_out-next.ensures
 
 pub stop-loop-e-preserved-else-m : goal.stop-loop-e-preserved-else-m
 stop-loop-e-preserved-else-m t c =
-    let at = c.loop-e.invariant in
-    entry_empty at c.loop-e-test.true c.unit.ensures c.if-not-unit.false c.entry_at-x.ensures c.asked-w.ensures c.met-m.result
+    entry_empty c.loop-e.invariant c.loop-e-test.true c.unit.ensures c.if-not-unit.false c.entry_at-x.ensures c.asked-w.ensures
+    c.met-m.result
     (back_kept c.asked-w.result c.entry_at-x.result.now (wide_of c.args.t) c.unwritten-u.result c.unwritten-u.ensures c.if-u.true
     c.keeps.ensures c.if-keeps.true c.met-m.result c.met-m.ensures)
-    c.if-m.false c.next_out-next.ensures (kept_same _ at.tracing.on_path.long)
+    c.if-m.false c.next_out-next.ensures (kept_same _ c.loop-e.invariant.tracing.on_path.long)
 
 -- an entry that copies or swaps them
 
@@ -381,15 +340,8 @@ stop-descend-r-requires-then-m-2 t c =
     let tracing = with_entry at c.loop-e-test.true c.unit.ensures c.push-then-m-2.ensures in
     let along = head_of at (omega (arith, c.in_port-port-then-m-2.ensures)) c.first_in-first-then-m-2.ensures in (
       omega (arith, c.decreases, at.hop_left),
-      (
-        after_trials tracing _ c.least_above-least-then-m-2.result (wide_of c.met_before-m.result.set) along
-            c.next_met-b-then-m-2.ensures,
-        (
-          omega (arith, c.in_port-port-then-m-2.ensures),
-          part_ended tracing _ c.least_above-least-then-m-2.result (wide_of c.met_before-m.result.set) along
-              c.next_met-b-then-m-2.ensures,
-        ),
-      ),
+      ended_at tracing c.least_above-least-then-m-2.result (wide_of c.met_before-m.result.set) along c.next_met-b-then-m-2.ensures
+          (omega (arith, c.in_port-port-then-m-2.ensures)),
     )
 
 pub stop-returns-then-r-ne0-2-clause-traced : goal.stop-returns-then-r-ne0-2-clause-traced
@@ -410,8 +362,7 @@ stop-returns-then-r-ne0-2-clause-kept t c =
     kept_on c.loop-e.invariant.kept (kept_under c.loop-e.invariant c.push-then-m-2.ensures c.descend-r-then-m-2.ensures.kept)
 
 pub stop-loop-e-smaller-else-r-ne0-2 : goal.stop-loop-e-smaller-else-r-ne0-2
-stop-loop-e-smaller-else-r-ne0-2 t c =
-    omega (arith, later_entry c.loop-e.invariant c.loop-e-test.true c.next_out-next.ensures, c.loop-e-test.true)
+stop-loop-e-smaller-else-r-ne0-2 t c = fewer_left c.loop-e.invariant c.loop-e-test.true c.next_out-next.ensures
 
 pub stop-loop-e-preserved-else-r-ne0-2 : goal.stop-loop-e-preserved-else-r-ne0-2
 stop-loop-e-preserved-else-r-ne0-2 t c =
@@ -429,32 +380,27 @@ stop-loop-e-preserved-else-r-ne0-2 t c =
     c.descend-r-then-m-2.ensures.kept c.descend-r-then-m-2.auto.area
 
 pub stop-loop-e-smaller-else-m-2 : goal.stop-loop-e-smaller-else-m-2
-stop-loop-e-smaller-else-m-2 t c =
-    omega (arith, later_entry c.loop-e.invariant c.loop-e-test.true c.next_out-next.ensures, c.loop-e-test.true)
+stop-loop-e-smaller-else-m-2 t c = fewer_left c.loop-e.invariant c.loop-e-test.true c.next_out-next.ensures
 
 pub stop-loop-e-preserved-else-m-2 : goal.stop-loop-e-preserved-else-m-2
 stop-loop-e-preserved-else-m-2 t c =
-    let at = c.loop-e.invariant in
-    entry_empty at c.loop-e-test.true c.unit.ensures c.if-not-unit.false c.entry_at-x.ensures c.asked-w.ensures c.met_before-m.result
+    entry_empty c.loop-e.invariant c.loop-e-test.true c.unit.ensures c.if-not-unit.false c.entry_at-x.ensures c.asked-w.ensures
+    c.met_before-m.result
     (back_moved c.asked-w.result c.entry_at-x.result.now (wide_of c.args.t) c.unwritten-u.result c.unwritten-u.ensures c.if-u.true
     c.met_before-m.result c.met_before-m.ensures)
-    c.if-m-2.false c.next_out-next.ensures (kept_same _ at.tracing.on_path.long)
+    c.if-m-2.false c.next_out-next.ensures (kept_same _ c.loop-e.invariant.tracing.on_path.long)
 
 -- an entry whose rewrite makes nothing into headers of the set, and the end of the chain
 
 pub stop-loop-e-smaller : goal.stop-loop-e-smaller
-stop-loop-e-smaller t c =
-    omega (arith, later_entry c.loop-e.invariant c.loop-e-test.true c.next_out-next.ensures, c.loop-e-test.true)
+stop-loop-e-smaller t c = fewer_left c.loop-e.invariant c.loop-e-test.true c.next_out-next.ensures
 
 pub stop-loop-e-preserved : goal.stop-loop-e-preserved
 stop-loop-e-preserved t c =
-    let at = c.loop-e.invariant in
-    entry_empty at c.loop-e-test.true c.unit.ensures c.if-not-unit.false c.entry_at-x.ensures c.asked-w.ensures c.unwritten-u.result
+    entry_empty c.loop-e.invariant c.loop-e-test.true c.unit.ensures c.if-not-unit.false c.entry_at-x.ensures c.asked-w.ensures
+    c.unwritten-u.result
     (back_empty c.asked-w.result c.entry_at-x.result.now (wide_of c.args.t) c.unwritten-u.result c.unwritten-u.ensures c.if-u.false)
-    c.if-u.false c.next_out-next.ensures (kept_same _ at.tracing.on_path.long)
+    c.if-u.false c.next_out-next.ensures (kept_same _ c.loop-e.invariant.tracing.on_path.long)
 
 pub stop-returns-clause-traced : goal.stop-returns-clause-traced
 stop-returns-clause-traced t c = entries_end c.loop-e.invariant (omega arith)
-
-pub stop-returns-clause-kept : goal.stop-returns-clause-kept
-stop-returns-clause-kept t c = c.loop-e.invariant.kept

@@ -1,7 +1,7 @@
 -- `stop`, `descend` and `carve` meet their contracts, by the measure hops left, then beaters left: a call has a lower one than its caller.
 -- A part's descent stands between the entry that it meets and the one that it met before.
--- `carve`'s loop is at a cut (`AtCut` of proofs/Carves.antt) and `stop`'s at an entry (`AtEntry` of proofs/Stops.antt), and each way out and
--- each turn is a law there. Each of `descend`'s three ways is a law of proofs/Descents.antt.
+-- `carve`'s loop is at a cut (`AtCut` of proofs/Carves.antt) and `stop`'s at an entry (`AtEntry` of proofs/Stops.antt). Each way out and
+-- each turn is a law there, and each of `descend`'s three ways is one of proofs/Descents.antt.
 use Prim.Native.Nat.{◌+◌, ◌-◌, ◌*◌}
 use lib.ListN.{length}
 use Rattle.headers.specs.Carving.{parts}

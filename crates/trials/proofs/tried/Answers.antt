@@ -1,16 +1,14 @@
 use mathlib.Core.List.{List}
 use mathlib.Core.Path.{◌≡◌, sym, ◌∙◌}
-use Prim.Native.Nat.{ℕ, ◌+◌, ◌-◌, ◌<◌}
+use Prim.Native.Nat.{ℕ, ◌+◌, ◌<◌}
 use native.Mathlib.Omega.{arith}
 use lib.ListN.{get_or}
-use Rattle.wide.specs.Forms.{wide_of}
 use Rattle.forwarding.specs.Fabric.{priority_of}
 use Rattle.model.specs.Model.{fabric_in, wide_in}
 use Rattle.index.specs.Index.{Index, ranks}
 use Rattle.entries.proofs.Entries.{entries_few}
 use Rattle.entries.proofs.Ranked.{next_with_lem}
-use Rattle.events.specs.Asked.{budget_of}
-use Rattle.trials.proofs.Walk.{unit_counted, AtTrial, first_trial, walk_ends, ranked_lower, refused_at, met_at, passed_over}
+use Rattle.trials.proofs.Walk.{unit_counted, first_trial, walk_ends, ranked_lower, refused_at, met_at, passed_over}
 use Rattle.trials.proofs.tried.Goals.{then-least-rank+else-not-unit+else-meets, else-least-rank}
 use Rattle.trials.proofs.tried.Goals as goal
 
@@ -22,22 +20,12 @@ rank_is i l h = h ∙ i.priorities _ l
 pub loop-b-init : goal.loop-b-init
 loop-b-init c = first_trial c.requires.of_chain c.requires.counters_len
 
-pub rank-requires : goal.rank-requires
-rank-requires c = c.loop-b-test.true
-
-pub unit-requires : goal.unit-requires
-unit-requires c = c.loop-b.invariant.counters_long
-
 pub returns-then-not-unit : goal.returns-then-not-unit
 returns-then-not-unit c =
     let l = c.loop-b-test.true in
     let few = entries_few c.requires.asked.fabric in
     let is = rank_is c.requires.index (c.loop-b.invariant.of_chain.is_entry l) c.rank.ensures in
     refused_at few c.loop-b.invariant l (let h = c.if-least-rank.true in omega arith) (unit_counted c.unit.ensures) c.if-not-unit.true
-
-pub meets-requires : goal.meets-requires
-meets-requires c =
-    record { entries_from = c.requires.entries_from; e_bound = c.loop-b.invariant.of_chain.is_entry c.loop-b-test.true }
 
 pub returns-then-meets : goal.returns-then-meets
 returns-then-meets c =
@@ -46,9 +34,6 @@ returns-then-meets c =
     let is = rank_is c.requires.index (c.loop-b.invariant.of_chain.is_entry l) c.rank.ensures in
     met_at few c.loop-b.invariant l (let h = c.if-least-rank.true in omega arith) (unit_counted c.unit.ensures)
     c.if-not-unit.false (sym c.meets.ensures ∙ c.if-meets.true)
-
-pub next_in-b-requires : goal.next_in-b-requires
-next_in-b-requires c = c.loop-b-test.true
 
 pub loop-b-smaller : goal.loop-b-smaller
 loop-b-smaller c =
