@@ -152,7 +152,8 @@ carve-returns-then-r-ne0-clause-traced t c =
     (part_stops at
     (left_exactly c.loop-x.invariant c.asked-w.ensures c.entry_at-x.ensures ∙ sym c.is_done.ensures ∙ c.loop-x-test.true)
     c.part-part.ensures
-    (part_traced at.tracing _ c.args.least (wide_of c.part-part.result) along c.next_met-k-in-loop-x.ensures _ _ c.descend-r.ensures.traced)
+    (part_traced at.tracing _ c.args.least (wide_of c.part-part.result) along c.next_met-k-in-loop-x.ensures _ _
+    c.descend-r.ensures.traced)
     c.if-r-ne0.true)
 
 pub carve-returns-then-r-ne0-clause-kept : goal.carve-returns-then-r-ne0-clause-kept
