@@ -4,6 +4,7 @@
 // They are handed an index of the file, so that they read no entry but those of the chain in hand, and references to the caller's
 // path and counters, so that a level of the descent copies no state.
 #![tactic(auto)]
+
 ghost use Rattle.std.specs.Prelude.{true, ◌≡◌, ◌-◌, ◌*◌, ◌<◌, ◌≤◌, length, set, drop};
 ghost use Rattle.wide.specs.Forms.{wide_of};
 ghost use Rattle.model.specs.Model.{wide_in};

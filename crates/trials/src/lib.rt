@@ -1,6 +1,7 @@
 // A part tried against the entries of an in-port, in file order, until it meets one: specs/Trials.antt. So carving goes straight on to the
 // next beater that a part meets, and the beaters passed over cost a unit and nothing else.
 #![tactic(auto)]
+
 ghost use Rattle.std.specs.Prelude.{◌≡◌, length, get_or};
 ghost use Rattle.wide.specs.Forms.{wide_of};
 ghost use Rattle.model.specs.Model.{fabric_in, wide_in};
