@@ -1,11 +1,9 @@
 -- `put_entries` meets its contract. The loop's invariant: with the entries that are left written from here on, all are.
-use mathlib.Core.Path.{◌≡◌, sym, ap, ◌∙◌}
-use Prim.Native.Nat.{ℕ, ◌+◌, ◌-◌, ◌≤◌}
-use borrow.Author.Rules.{rules}
+use mathlib.Core.Path.{◌≡◌}
+use Prim.Native.Nat.{◌+◌, ◌-◌, ◌≤◌}
 use lib.ListN.{length, drop}
-use native.Mathlib.Omega.{arith}
 use Rattle.answer.specs.Answer.{written_at}
-use Rattle.events.proofs.FindWords.{entry_words, entries_next, entries_end}
+use Rattle.events.proofs.FindWords.{entry_words}
 use Rattle.listing.proofs.put_entries.Given as goal
 
 abbrev pub invariant-loop-i : goal.invariant-loop-i
