@@ -14,7 +14,8 @@ use Rattle.wide.specs.declared.WideHeader.{WideHeader}
 use Rattle.journey.proofs.put.Goals as goal
 
 -- the header's words that are written
-shown : {w : ℕ} → Width w → (h : WideHeader) → length h.low ≡ half → length h.high ≡ half → length (take w (words_of h)) ≡ w
+shown : {w : ℕ} → Width w → (h : WideHeader) → length h.low ≡ half → length h.high ≡ half
+    → length (take w (words_of h)) ≡ w
 shown {w = w} width h low high = length-take-le w (words_of h) (omega (arith, length-append h.low h.high, width.high))
 
 pub put_words-requires-2 : goal.put_words-requires-2

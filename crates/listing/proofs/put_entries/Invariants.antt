@@ -9,7 +9,8 @@ use Rattle.listing.proofs.put_entries.Given as goal
 abbrev pub invariant-loop-i : goal.invariant-loop-i
 invariant-loop-i l =
     (l.d ≤ l.i) × (l.i ≤ 16) × (length l.area ≡ length l.initial.area)
-    × (written_at (l.at + (l.i - l.d)) (entry_words (drop l.i l.path)) l.area ≡ written_at l.at (entry_words (drop l.d l.path)) l.initial.area)
+    × (written_at (l.at + (l.i - l.d)) (entry_words (drop l.i l.path)) l.area
+    ≡ written_at l.at (entry_words (drop l.d l.path)) l.initial.area)
 
 abbrev pub decreases-loop-i : goal.decreases-loop-i
 decreases-loop-i l = 16 - l.i
