@@ -1,10 +1,10 @@
 -- `call` meets its contract: question 14 is asked first, and the call that word 0 names is made, in the version that it marks. Assumes
 -- nothing.
+use mathlib.Core.Bool.{not}
 use mathlib.Core.List.{List}
 use mathlib.Core.Option.{some}
 use mathlib.Core.Path.{◌≡◌, sym, ap, ◌∙◌, subst}
 use Prim.Native.Nat.{ℕ, ◌-◌, ◌*◌, ◌%◌, ◌^◌, ◌≤◌, ◌<◌}
-use borrow.Author.Rules.{rules}
 use lib.ListN.{length, take, drop}
 use Rattle.headers.specs.Sets.{Set}
 use Rattle.answer.specs.Answer.{Outcome, refused}
@@ -40,10 +40,10 @@ pub returns-then-not-is_named : goal.returns-then-not-is_named
 unfolding refused
 returns-then-not-is_named c =
     unknown c.args.input.now c.args.area.now
-    (number_of_lem c.args.input.now _ c.word-first.ensures ∙ not_named _ _ c.is_named.ensures ?)
+    (number_of_lem c.args.input.now _ c.word-first.ensures ∙ not_named _ _ c.is_named.ensures (ap not c.if-not-is_named.true))
 
 pub named-requires : goal.named-requires
-named-requires c = named_range _ _ c.is_named.ensures ?
+named-requires c = named_range _ _ c.is_named.ensures (ap not c.if-not-is_named.false)
 
 pub returns-then-first-lt-VERSION_2 : goal.returns-then-first-lt-VERSION_2
 returns-then-first-lt-VERSION_2 c =
@@ -57,7 +57,7 @@ returns-then-input-lt-QUERY_V2 c =
     (subst (λ (x : ℕ). 2 ^ 31 ≤ x) c.word-first.ensures c.if-first-lt-VERSION_2.false) c.if-input-lt-QUERY_V2.true
 
 pub named-requires-2 : goal.named-requires-2
-named-requires-2 c = named_range _ _ c.is_named.ensures ?
+named-requires-2 c = named_range _ _ c.is_named.ensures (ap not c.if-not-is_named.false)
 
 pub returns : goal.returns
 returns c =
