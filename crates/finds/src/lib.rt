@@ -1,6 +1,7 @@
 // What is done with a find, by the mode: it is listed, or judged for the verdict. Document 01, the last three paragraphs of "The back-trace
 // and its count".
 #![tactic(auto)]
+
 ghost use Rattle.std.specs.Prelude.{cond, ◌≡◌, ◌+◌, ◌*◌, ◌≤◌, eqb, length, get_or, take, drop};
 ghost use mathlib.Core.List.{head?};
 ghost use Rattle.std.proofs.Math.Option.{some};

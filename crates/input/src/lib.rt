@@ -1,5 +1,6 @@
 // What the program's input asks: a query and a fabric, in either version. Document 01, "The program", and document 02, 2.6.
 #![tactic(auto)]
+
 ghost use Rattle.std.specs.Prelude.{◌&&◌, ◌≡◌, ◌≤◌, leb, length};
 ghost use Rattle.std.proofs.Math.Option.{some};
 ghost use Rattle.sets.specs.Forms.{set_of};

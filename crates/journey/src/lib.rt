@@ -1,5 +1,6 @@
 // A packet on its way: document 01, "Forwarding".
 #![tactic(auto)]
+
 ghost use Rattle.std.specs.Prelude.{◌≡◌, ◌*◌, ◌≤◌, ◌<◌, length};
 ghost use Rattle.answer.specs.Answer.{answer_words, written_at};
 ghost use Rattle.layout.specs.Records.{Width};

@@ -1,6 +1,7 @@
 // A find is listed: its words are counted, and written where there is room. Document 01, the last three paragraphs of "The back-trace and
 // its count".
 #![tactic(auto)]
+
 ghost use Rattle.std.specs.Prelude.{◌++◌, map, ◌≡◌, ◌+◌, ◌-◌, ◌*◌, ◌^◌, ◌<◌, ◌≤◌, ltb, length, get_or, drop};
 ghost use Rattle.answer.specs.Answer.{written_at};
 ghost use Rattle.layout.specs.Records.{Width, set_words, port_of_edge};

@@ -1,6 +1,7 @@
 // The packets that are lost, traced back from every port where a packet can stand (specs/Losses.antt): what the entries there leave of the
 // asked set goes on as any part does, by stop and carving.
 #![tactic(auto)]
+
 ghost use Rattle.std.specs.Prelude.{◌≡◌, ◌-◌, ◌≤◌};
 ghost use Rattle.wide.specs.Forms.{wide_of};
 ghost use Rattle.file.specs.Accepted.{Accepted};

@@ -1,5 +1,6 @@
 // A pass of the back-trace: "The first stop is the target with the limit." Document 01, "The back-trace and its count".
 #![tactic(auto)]
+
 ghost use Rattle.std.specs.Prelude.{true, ◌≡◌, ◌*◌, ◌≤◌, length};
 ghost use Rattle.answer.specs.Answer.{answer_words};
 ghost use Rattle.layout.specs.Records.{width_in};

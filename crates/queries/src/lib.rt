@@ -1,6 +1,7 @@
 // Questions 8 to 11, which are of a query on an accepted fabric (specs/Queries.antt): each answer, and those that verdict and list ask
 // first.
 #![tactic(auto)]
+
 ghost use Rattle.std.specs.Prelude.{not, ◌&&◌, ◌≡◌, eqb};
 ghost use Rattle.layout.specs.Records.{Width};
 ghost use Rattle.wide.specs.Forms.{wide_words, wide_of, narrowed};

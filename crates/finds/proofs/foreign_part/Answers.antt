@@ -1,6 +1,5 @@
 -- `foreign_part` meets its contract.
 use mathlib.Core.Path.{sym, ◌∙◌}
-use borrow.Author.Rules.{rules}
 use borrow.Author.Tests.{eq-eqb, ne_eqb}
 use native.Mathlib.Omega.{arith}
 use Rattle.finds.proofs.foreign_part.Goals as goal

@@ -8,23 +8,15 @@ use Rattle.finds.proofs.found.Goals as goal
 
 pub judge-requires : goal.judge-requires
 judge-requires c =
-    let room = c.requires.room in (
-      c.requires.asked,
-      (
-        c.requires.has_edge,
-        (
-          c.requires.path,
-          (
-            search rules,
-            (
-              room.made_within,
-              rw c.requires.asked.width_is at (room.verdict_room c.if-mode-eq-JUDGE.true),
-            ),
-          ),
-        ),
-      ),
-    )
-    -- TODO record ['asked', 'has_edge', 'path', 'ask_len', 'counters_bound', 'file_in_bounds']
+    let room = c.requires.room in
+    record {
+      asked = c.requires.asked;
+      has_edge = c.requires.has_edge;
+      path = c.requires.path;
+      ask_len = search rules;
+      counters_bound = room.made_within;
+      file_in_bounds = rw c.requires.asked.width_is at (room.verdict_room c.if-mode-eq-JUDGE.true);
+    }
 
 pub returns-then-mode-eq-JUDGE : goal.returns-then-mode-eq-JUDGE
 unfolding found_by
@@ -40,4 +32,7 @@ pub returns : goal.returns
 unfolding found_by
 returns c =
     let width = c.asked.ensures ∙ c.requires.asked.width_is in
-    record { area_after = rw (ne_eqb _ _ c.if-mode-eq-JUDGE.false) (rw width at c.list_find.ensures.area_after); counters_len = c.list_find.ensures.counters_len_2 }
+    record {
+      area_after = rw (ne_eqb _ _ c.if-mode-eq-JUDGE.false) (rw width at c.list_find.ensures.area_after);
+      counters_len = c.list_find.ensures.counters_len_2;
+    }

@@ -1,7 +1,6 @@
 -- `judge` meets its contract: without a foreign part the trace goes on, and else the words of the verdict are written.
 use mathlib.Core.Path.{◌∙◌}
 use borrow.Author.Tests.{not-true, not-false}
-use borrow.Author.Rules.{rules}
 use native.Mathlib.Omega.{arith}
 use Rattle.layout.proofs.Widths.{width_said}
 use Rattle.wide.specs.Forms.{wide_of}
@@ -20,9 +19,6 @@ returns-then-not-foreign c =
     judged_on c.requires.has_edge (target_of a.ask.now) c.requires.asked.group_is a.path.now a.d (wide_of a.p)
     (c.number-w.ensures.0 ∙ c.requires.asked.width_is) c.edge-edge.ensures
     c.foreign_part-foreign.result c.foreign_part-foreign.ensures a.counters.now a.area.now (not-true _ c.if-not-foreign.true)
-
-pub overflow_cast-units : goal.overflow_cast-units
-overflow_cast-units c = omega (arith, c.shared_slice_known-2-1.given 0, c.requires)
 
 pub put_reached-requires : goal.put_reached-requires
 put_reached-requires c =

@@ -2,7 +2,6 @@
 use mathlib.Core.List.{List, [], ◌∷◌, ◌++◌}
 use mathlib.Core.Path.{◌≡◌, refl, sym, ap, ◌∙◌}
 use Prim.Native.Nat.{ℕ, ◌-◌}
-use borrow.Author.Rules.{rules}
 use lib.ListN.{length, take, drop}
 use lib.Seq.{length-take-le}
 use native.Mathlib.Omega.{arith}
@@ -23,7 +22,7 @@ returns c =
     let eight : length whole ≡ wide_words = refl in
     let long : length header ≡ a.w = length-take-le a.w whole (omega (arith, c.requires.width.high)) in
     written_both 0 (1 ∷ a.units ∷ a.port ∷ (16 - a.d) ∷ []) (header ++ entries) a.area.now c.put_words.ensures
-    (written_both 4 header entries c.put_words.new.0
+    (written_both 4 header entries c.put_words.new.area
     (rw c.lowest-header.ensures at c.put_header.ensures)
     c.put_sixteen.ensures (omega arith) (omega arith))
     (omega arith) (omega arith)

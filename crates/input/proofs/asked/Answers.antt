@@ -1,5 +1,4 @@
 -- `asked` meets its contract, four words at a time.
-use borrow.Author.Rules.{rules}
 use Rattle.input.proofs.asked.Goals as goal
 
 pub returns : goal.returns

@@ -1,7 +1,6 @@
 -- `asked_v2` meets its contract: the halves of eight words of care and of value.
 use mathlib.Core.Path.{refl, ◌∙◌}
 use native.Mathlib.Omega.{arith}
-use borrow.Author.Rules.{rules}
 use Rattle.headers.specs.Sets.{beside}
 use Rattle.layout.specs.Records.{Width}
 use Rattle.layout.proofs.Widths.{set_halves}

@@ -1,7 +1,6 @@
 -- `miss_fate` asks the fabric whether a packet that no entry takes is dropped.
 use mathlib.Core.Bool.{Bool, cond}
 use mathlib.Core.Path.{sym, ap, ◌∙◌}
-use borrow.Author.Rules.{rules}
 use Rattle.journey.proofs.miss_fate.Goals as goal
 
 pub returns-then-miss_drops : goal.returns-then-miss_drops

@@ -1,15 +1,9 @@
 -- `travel` meets its contract. The loop's invariant: j is the packet after k hops, or at its end before.
-use mathlib.Core.Path.{◌≡◌, subst}
-use Prim.Native.Nat.{ℕ, ◌-◌, ◌≤◌}
-use borrow.Author.Rules.{rules}
-use native.Mathlib.Omega.{arith}
-use Rattle.answer.specs.Answer.{sixteen}
+use Prim.Native.Nat.{◌-◌, ◌≤◌}
 use Rattle.wide.specs.Forms.{words_of}
-use Rattle.forwarding.specs.Run.{run, hop, fate_of, port_of, header_of, taken_by}
-use Rattle.forwarding.proofs.Runs.{hops_within}
+use Rattle.forwarding.specs.Run.{run}
 use Rattle.model.specs.Model.{wide_in}
 use Rattle.journey.specs.Journey.{IsJourney}
-use Rattle.journey.proofs.Hops.{one_more_hop, few_hops}
 use Rattle.journey.proofs.travel.Given as goal
 
 abbrev pub invariant-loop-k : goal.invariant-loop-k

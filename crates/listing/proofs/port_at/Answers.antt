@@ -1,6 +1,5 @@
 -- `port_at` meets its contract: an edge's own bytes say its port.
 use mathlib.Core.Path.{ap, ◌∙◌}
-use borrow.Author.Rules.{rules}
 use native.Mathlib.Omega.{arith}
 use Rattle.layout.specs.Records.{edge_port}
 use Rattle.file.proofs.Accepted.{edge_port_is}

@@ -1,7 +1,7 @@
 use mathlib.Core.Path.{◌≡◌, sym, ap, ◌∙◌}
-use Prim.Native.Nat.{ℕ, ◌+◌, ◌-◌, ◌≤◌}
+use Prim.Native.Nat.{ℕ, ◌+◌, ◌-◌}
 use borrow.Author.Rules.{rules}
-use lib.ListN.{length, drop}
+use lib.ListN.{drop}
 use native.Mathlib.Omega.{arith}
 use Rattle.answer.specs.Answer.{written_at}
 use Rattle.events.proofs.FindWords.{entry_words, entries_next, entries_end}
@@ -27,7 +27,7 @@ loop-i-preserved c =
       search rules,
       search rules,
       search rules,
-      entries_next (a.at + (l.i - a.d)) (a.at + (l.i + 1 - a.d)) l.i a.path.now l.area-1 c.put_word.ensures
+      entries_next (a.at + (l.i - a.d)) (a.at + (l.i + 1 - a.d)) l.i a.path.now l.area c.put_word.ensures
           (omega arith) (omega (arith, c.requires.path.long)) (omega arith)
           ∙ l.invariant.3,
     )
@@ -36,4 +36,4 @@ pub returns : goal.returns
 returns c =
     let l = c.loop-i in
     let a = c.args in
-    sym (entries_end (a.at + (l.i - a.d)) l.i a.path.now l.area-1 (omega (arith, c.requires.path.long)) (omega arith)) ∙ l.invariant.3
+    sym (entries_end (a.at + (l.i - a.d)) l.i a.path.now l.area (omega (arith, c.requires.path.long)) (omega arith)) ∙ l.invariant.3

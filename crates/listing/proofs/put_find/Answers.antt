@@ -2,7 +2,6 @@
 use mathlib.Core.List.{List, [], ◌∷◌, ◌++◌}
 use mathlib.Core.Path.{sym, ap, ◌∙◌}
 use Prim.Native.Nat.{ℕ, ◌+◌, ◌-◌, ◌*◌, ◌^◌}
-use borrow.Author.Rules.{rules}
 use lib.ListN.{drop}
 use native.Mathlib.Omega.{arith}
 use Rattle.headers.specs.Sets.{Set}
@@ -22,7 +21,7 @@ returns c =
     let n = entry_words_are c.requires.path in
     written_both a.at ((6 * 2 ^ 28 + (16 - a.d) * 2 ^ 12 + a.port) ∷ []) (entry_words path ++ words) a.area.now
     c.put_word.ensures
-    (written_both (a.at + 1) (entry_words path) words c.put_word.new.0 c.put_entries.ensures
+    (written_both (a.at + 1) (entry_words path) words c.put_word.new.area c.put_entries.ensures
     c.put_set.ensures (omega arith) (omega arith))
     (omega arith) (omega arith)
     ∙ ap (λ (n : ℕ). written_at a.at ((6 * 2 ^ 28 + n * 2 ^ 12 + a.port) ∷ (entry_words path ++ words)) a.area.now)

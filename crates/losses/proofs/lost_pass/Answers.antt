@@ -1,5 +1,4 @@
 -- `lost_pass` meets its contract: its numbers are those that `lost_ports` needs, and what that leaves is the pass.
-use borrow.Author.Rules.{rules}
 use native.Mathlib.Omega.{arith}
 use Rattle.layout.proofs.Widths.{width_said}
 use Rattle.wide.specs.Forms.{wide_of}

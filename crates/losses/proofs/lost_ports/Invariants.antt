@@ -1,13 +1,7 @@
 -- `lost_ports` meets its contract: its loop is at a port (`AtPort` of proofs/Ports.antt).
-use mathlib.Core.Path.{◌∙◌}
-use Prim.Native.Nat.{◌-◌, ◌<◌}
-use borrow.Author.Rules.{rules}
-use native.Mathlib.Omega.{arith}
+use Prim.Native.Nat.{◌-◌}
 use Rattle.wide.specs.Forms.{wide_of}
-use Rattle.entries.proofs.Entries.{entries_few}
-use Rattle.entries.proofs.InChains.{next_in_chain}
-use Rattle.backtrace.proofs.Trying.{part_ended, after_trials, part_traced}
-use Rattle.losses.proofs.Ports.{AtPort, ports_begin, ports_end, first_there, port_skipped, port_ended, port_through}
+use Rattle.losses.proofs.Ports.{AtPort}
 use Rattle.losses.proofs.lost_ports.Given as goal
 
 abbrev pub invariant-loop-port : goal.invariant-loop-port

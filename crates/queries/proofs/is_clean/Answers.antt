@@ -10,4 +10,4 @@ pub returns : goal.returns
 returns c =
     let s = c.args.asked in
     ap₂ ◌&&◌ c.is_tidy.ensures c.clean_high.ensures
-    ∙ sym (clean_beside (set_of s.low-1) (set_of s.high-1) (record { care = search rules; value = search rules }))
+    ∙ sym (clean_beside (set_of s.low) (set_of s.high) (record { care = search rules; value = search rules }))

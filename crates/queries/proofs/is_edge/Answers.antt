@@ -1,6 +1,5 @@
 -- `is_edge` meets its contract by what the table of edges says of the fabric.
 use mathlib.Core.Path.{sym}
-use borrow.Author.Rules.{rules}
 use native.Mathlib.Omega.{arith}
 use Rattle.model.proofs.Lookups.{edge_past, edge_looked_up}
 use Rattle.queries.proofs.is_edge.Goals as goal

@@ -1,7 +1,6 @@
 -- `list_no` meets its contract: a list's target is an edge port, or asks for the packets that are lost.
 use mathlib.Core.Bool.{Bool, ◌||◌}
 use mathlib.Core.Path.{ap₂, ◌∙◌}
-use borrow.Author.Rules.{rules}
 use Rattle.wide.specs.Forms.{wide_words, wide_of}
 use Rattle.questions.specs.Questions.{first_no}
 use Rattle.queries.specs.Queries.{trace_questions}

@@ -1,7 +1,6 @@
 -- `lost_asked` meets its contract: it asks the fabric what becomes of a packet that no entry takes.
 use mathlib.Core.Bool.{Bool, not, ◌&&◌}
 use mathlib.Core.Path.{ap}
-use borrow.Author.Rules.{rules}
 use lib.Dec.{eqb}
 use Rattle.queries.proofs.lost_asked.Goals as goal
 

@@ -1,7 +1,6 @@
 -- `verdict_no` meets its contract: a verdict's target is an edge port.
 use mathlib.Core.Bool.{Bool}
 use mathlib.Core.Path.{ap, ◌∙◌}
-use borrow.Author.Rules.{rules}
 use Rattle.wide.specs.Forms.{wide_words, wide_of}
 use Rattle.questions.specs.Questions.{first_no}
 use Rattle.queries.specs.Queries.{trace_questions}
