@@ -1,5 +1,6 @@
 // What an entry does to a header, and its undoing, on four words. What each call means is in crates/headers, specs/Actions.
 #![tactic(auto)]
+
 ghost use Rattle.std.specs.Prelude.{◌≡◌};
 ghost use Rattle.headers.specs.Sets.{rewritten, undone, writes};
 ghost use Rattle.headers.specs.Actions.{acted, met_before, before, no_action};

@@ -1,5 +1,6 @@
 // Questions 3 to 7 of an entry, after the records that passed. hw is the words of a header in this file.
 #![tactic(auto)]
+
 ghost use Rattle.std.specs.Prelude.{◌≡◌};
 ghost use Rattle.layout.specs.Records.{width_in, place_in, in_of_entry, recent};
 ghost use Rattle.layout.specs.Limits.{most_entries};

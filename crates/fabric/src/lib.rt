@@ -1,6 +1,7 @@
 // The calls that the runtime's host makes: document 01, "The runtime's host, in Rust, makes these calls on byte slices and numbers".
 // Each asks document 01's questions in turn, and returns place × 256 + number; after a no every lent byte is as it was.
 #![tactic(auto)]
+
 ghost use Rattle.std.specs.Prelude.{◌≡◌, [], ◌∷◌};
 ghost use Rattle.sets.specs.Forms.{set_of};
 ghost use Rattle.answer.specs.Answer.{outcome};
@@ -132,11 +133,10 @@ pub fn make_v2(
     answer(call, file, area, 2 * HALF, port, limit, budget, asked)
 }
 
-// ---- what the host links
+// ---- the calls on numbers, which crates/fabric_c exports to the host
 
 // The call verdict on a file of version 1: the file, the area lent and words 1 to 11 of the query.
-#[unsafe(no_mangle)]
-pub extern "C" fn fabric_verdict(
+pub fn fabric_verdict(
     file: &[u8],
     area: &mut [u8],
     target: u32,
@@ -170,8 +170,7 @@ pub extern "C" fn fabric_verdict(
 }
 
 // The call verdict on a file of version 2: the file, the area lent and words 1 to 19 of the query.
-#[unsafe(no_mangle)]
-pub extern "C" fn fabric_verdict_v2(
+pub fn fabric_verdict_v2(
     file: &[u8],
     area: &mut [u8],
     target: u32,
@@ -222,8 +221,7 @@ pub extern "C" fn fabric_verdict_v2(
 }
 
 // The call list on a file of version 1: the file, the area lent and words 1 to 11 of the query.
-#[unsafe(no_mangle)]
-pub extern "C" fn fabric_list(
+pub fn fabric_list(
     file: &[u8],
     area: &mut [u8],
     target: u32,
@@ -257,8 +255,7 @@ pub extern "C" fn fabric_list(
 }
 
 // The call list on a file of version 2: the file, the area lent and words 1 to 19 of the query.
-#[unsafe(no_mangle)]
-pub extern "C" fn fabric_list_v2(
+pub fn fabric_list_v2(
     file: &[u8],
     area: &mut [u8],
     target: u32,
@@ -309,8 +306,7 @@ pub extern "C" fn fabric_list_v2(
 }
 
 // The call run on a file of version 1: the file, the area lent and words 1 to 11 of the query.
-#[unsafe(no_mangle)]
-pub extern "C" fn fabric_run(
+pub fn fabric_run(
     file: &[u8],
     area: &mut [u8],
     start: u32,
@@ -344,8 +340,7 @@ pub extern "C" fn fabric_run(
 }
 
 // The call run on a file of version 2: the file, the area lent and words 1 to 19 of the query.
-#[unsafe(no_mangle)]
-pub extern "C" fn fabric_run_v2(
+pub fn fabric_run_v2(
     file: &[u8],
     area: &mut [u8],
     start: u32,

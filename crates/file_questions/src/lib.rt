@@ -1,5 +1,6 @@
 // Questions 1 and 2, of the whole file. hw is the words of a header in files of the call's version.
 #![tactic(auto)]
+
 ghost use Rattle.std.specs.Prelude.{◌≡◌};
 ghost use Rattle.layout.specs.Records.{Width};
 ghost use Rattle.layout.specs.Limits.{most_bytes};

@@ -1,6 +1,7 @@
 // Questions 3 to 7 of an edge or a link, after the records that passed, and of the end; and the number of the first no. hw is the words of
 // a header in this file. Those of an entry are in `entry_questions`.
 #![tactic(auto)]
+
 ghost use Rattle.std.specs.Prelude.{[], ◌∷◌, ◌≡◌, ◌+◌, ◌≤◌};
 ghost use Rattle.sets.specs.Forms.{set_of};
 ghost use Rattle.layout.specs.Words.{words_in};

@@ -1,6 +1,7 @@
 // The words and the records of document 01's fabric file, read: a record's fields, its own bytes, and where it stands. What they are is in
 // crates/layout.
 #![tactic(auto)]
+
 ghost use Rattle.std.specs.Prelude.{◌≡◌, ◌+◌, ◌*◌, ◌<◌, ◌≤◌, length};
 ghost use Rattle.sets.specs.Forms.{form_of};
 ghost use Rattle.layout.specs.Words.{word_at, words_in, words_from, bytes_from, kind_of, transfer_of, port_of, from_of, rank_of};

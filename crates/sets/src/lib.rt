@@ -1,6 +1,7 @@
 // Header sets of four words: membership, intersection, the undoing of transfers, and what carving makes of a set. What each call means is
 // in crates/headers, specs/Sets, Actions and Carving.
 #![tactic(auto)]
+
 ghost use Rattle.std.specs.Prelude.{◌≡◌};
 ghost use Rattle.headers.specs.Sets.{contains, tidy, overlaps, joined, intersection, widened, lowest, all_wild};
 ghost use Rattle.headers.specs.Actions.{swapped, moved_set, uncopied, untransferred};

@@ -1,5 +1,6 @@
 // The numbers asked, and units: one more is made, if the budget has it.
 #![tactic(auto)]
+
 ghost use Rattle.std.specs.Prelude.{◌≡◌, ◌^◌, ◌<◌, length, get_or};
 ghost use Rattle.events.specs.Asked.{UnitMade};
 

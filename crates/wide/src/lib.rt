@@ -2,6 +2,7 @@
 // In version 1 of the file a set has four words, and is taken for one of eight whose last four are wild: so one code serves both
 // versions. How such a set meets one that stands in the file is in `stored`.
 #![tactic(auto)]
+
 ghost use Rattle.std.specs.Prelude.{◌≡◌};
 ghost use Rattle.headers.specs.Sets.{padded, lowest};
 ghost use Rattle.sets.specs.Forms.{set_of};
