@@ -29,7 +29,7 @@ fn main() {
         Err(why) => {
             eprintln!("{}: {why}.", archive.display());
             eprintln!(
-                "Make it by 'rt staticlib fabric' and 'tools/archive' in the folder above this \
+                "Make it by 'tools/library' in the folder above this \
                  one, or set {LIB_DIR}."
             );
             exit(1);

@@ -34,7 +34,7 @@ pub fn printed_in_pieces(input: &[u8], size: usize) -> String {
         .stdin(Stdio::piped())
         .stdout(Stdio::piped())
         .spawn()
-        .expect("the program: make it by 'rt check query', or set FABRIC_QUERY");
+        .expect("the program: make it by 'tools/library', or set FABRIC_QUERY");
     if let Some(mut stdin) = child.stdin.take() {
         let mut pieces = input.chunks(size).peekable();
         while let Some(piece) = pieces.next() {
