@@ -1,5 +1,4 @@
 -- `answer_accepted` meets its contract: each call has its own function.
-use borrow.Author.Rules.{rules}
 use Rattle.fabric.proofs.answer_accepted.Goals as goal
 
 pub returns-in-Verdict : goal.returns-in-Verdict

@@ -1,8 +1,8 @@
 use mathlib.Core.List.{List, ◌++◌}
 use mathlib.Core.Path.{◌≡◌, refl, ap, ◌∙◌}
-use Prim.Native.Nat.{ℕ, ◌*◌, ◌-◌, ◌≤◌}
+use Prim.Native.Nat.{ℕ, ◌*◌}
 use borrow.Author.Rules.{rules}
-use lib.ListN.{length, take, drop, get_or, set}
+use lib.ListN.{take, drop, get_or, set}
 use native.Mathlib.Omega.{arith}
 use Rattle.list_call.proofs.Copying.{one_copied}
 use Rattle.list_call.proofs.copy_words.Goals as goal

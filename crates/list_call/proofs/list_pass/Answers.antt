@@ -22,20 +22,14 @@ returns-then-target-eq0 c =
 
 pub pass-requires : goal.pass-requires
 pass-requires c =
-    (
-      c.requires.accepted,
-      (
-        c.requires.edge_table,
-        (
-          c.requires.index,
-          (
-            edge_asked (fabric_in c.args.file.now) c.args.target c.if-target-eq0.false c.requires.target_value,
-            (c.requires.le_limit, search rules),
-          ),
-        ),
-      ),
-    )
-    -- TODO record ['accepted', 'edge_table', 'index', 'target_value', 'le_limit', 'file_in_bounds']
+    record {
+      accepted = c.requires.accepted;
+      edge_table = c.requires.edge_table;
+      index = c.requires.index;
+      target_value = edge_asked (fabric_in c.args.file.now) c.args.target c.if-target-eq0.false c.requires.target_value;
+      le_limit = c.requires.le_limit;
+      file_in_bounds = search rules;
+    }
 
 pub returns : goal.returns
 returns c =

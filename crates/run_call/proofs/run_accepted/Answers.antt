@@ -3,135 +3,138 @@ use mathlib.Core.Bool.{Bool, ◌&&◌}
 use mathlib.Core.List.{List}
 use mathlib.Core.Path.{◌≡◌, sym, ap, ap₂, ◌∙◌}
 use Prim.Native.Nat.{ℕ, ◌*◌, ◌≤◌}
-use borrow.Author.Rules.{rules}
 use borrow.Author.Tests.{leb-true}
 use lib.Dec.{leb}
 use lib.ListN.{length}
 use native.Mathlib.Omega.{arith}
 use Rattle.headers.specs.Sets.{Set}
 use Rattle.answer.specs.Answer.{answer_words, written_at}
-use Rattle.layout.specs.Records.{Width}
-use Rattle.wide.specs.Forms.{wide_of, narrowed}
+use Rattle.layout.specs.declared.Shape.{Shape}
+use Rattle.layout.proofs.Widths.{width_said}
+use Rattle.wide.specs.Forms.{wide_words, wide_of, narrowed, Fits}
+use Rattle.wide.specs.declared.WideSet.{WideSet}
 use Rattle.wide.proofs.Halves.{Fours}
 use Rattle.wide.proofs.Arrays.{set_fours}
-use Rattle.questions.specs.Questions.{pick, first_no}
-use Rattle.forwarding.specs.Fabric.{Fabric}
+use Rattle.questions.specs.Questions.{pick, clean, Question, first_no}
+use Rattle.file.specs.Accepted.{Accepted}
+use Rattle.file.proofs.Accepted.{words_said}
 use Rattle.model.specs.Model.{fabric_in, wide_in}
-use Rattle.journey.specs.Journey.{packet_words}
 use Rattle.journey.proofs.Hops.{few_hops_then}
-use Rattle.queries.specs.Queries.{cares_for_all}
-use Rattle.calls.specs.Questions.{Query, query}
-use Rattle.calls.specs.Run.{run_questions, packet_run}
+use Rattle.queries.specs.Queries.{limit_right, cares_for_all}
+use Rattle.calls.specs.Questions.{query}
+use Rattle.calls.specs.Run.{run_questions, run_words_asked}
 use Rattle.calls.proofs.Asking.{Yeses, all_yes, limit_range, no_answered, yes_answered}
-use Rattle.calls.proofs.OwnWidth.{width, words_own, clean_own, journey_own, run_words_long}
+use Rattle.calls.proofs.OwnWidth.{words_own, clean_own, journey_own, run_words_long}
 use Rattle.run_call.proofs.run_accepted.Goals as goal
 
--- ---- the moments of the call
+-- a run asked on an accepted file
+module _
+    (f : List ℕ) (s : Shape) (ok : Accepted f s) (set : WideSet) (fits : Fits s.words (wide_of set)) (fours : Fours set)
+    (start limit budget : ℕ) (area : List ℕ)
+  where
+    -- what is asked, as the file has it
+    abbrev own : Set
+    own = narrowed s.words (wide_of set)
 
-module _ (s : goal.Start) where
-  -- what is asked, as the file has it
-  abbrev own : Set
-  own = narrowed s.args.shape.words (wide_of s.args.asked)
+    abbrev questions : List Question
+    questions = run_questions (fabric_in f) (query start limit budget own) area
 
-  fours : Fours s.args.asked
-  fours = set_fours s.args.asked s.good.1.1.1.1.1.1.1.1.0
+    words_known : (fabric_in f).words ≡ s.words
+    words_known = words_own f s ok set fits fours
 
-  width-known : Width s.args.shape.words
-  width-known = width s.args.file.now s.args.shape s.pre.0 s.args.asked s.pre.1.1.1 fours
+    -- the number of the first no
+    asked : {words : ℕ} {tidy all edge right : Bool} {no no-10 no-11 no-12 : ℕ} → tidy ≡ clean wide_words (wide_of set)
+        → all ≡ cares_for_all s.words own → edge ≡ (fabric_in f).is_edge start → words ≡ answer_words s.words → right ≡ limit_right limit
+        → no-12 ≡ pick (leb (4 * words) (length area)) 0 12 → no-11 ≡ pick edge no-12 11 → no-10 ≡ pick (tidy && all) no-11 10
+        → no ≡ pick right no-10 9 → no ≡ first_no questions
+    asked tidy all edge words right said-12 said-11 said-10 said =
+        said
+        ∙ ap₂ (λ (y : Bool) (n : ℕ). pick y n 9) right
+        (said-10
+        ∙ ap₂ (λ (y : Bool) (n : ℕ). pick y n 10)
+        (ap₂ ◌&&◌ (tidy ∙ clean_own f s ok set fits fours) (all ∙ ap (λ (n : ℕ). cares_for_all n own) (sym words_known)))
+        (said-11
+        ∙ ap₂ (λ (y : Bool) (n : ℕ). pick y n 11) edge
+        (said-12 ∙ ap (λ (m : ℕ). pick (leb (4 * m) (length area)) 0 12) (words ∙ ap answer_words (sym words_known)))))
 
-  words-known : (fabric_in s.args.file.now).words ≡ s.args.shape.words
-  words-known = words_own s.args.file.now s.args.shape s.pre.0 s.args.asked s.pre.1.1.1 fours
+    -- none got a no
+    module _ (none : first_no questions ≡ 0) where
+      yeses : Yeses questions
+      yeses = all_yes questions (omega arith, (omega arith, (omega arith, (omega arith, tt)))) none
 
--- the questions were asked
-module _ (c : goal.After-ask-no) where
-  abbrev start : goal.Start
-  start = c
+      low_limit : limit ≤ 16
+      low_limit = (limit_range _ yeses.0).1
 
-  abbrev F : Fabric
-  F = fabric_in start.args.file.now
-
-  abbrev q : Query
-  q = query start.args.start start.args.limit start.args.budget (own start)
-
-  abbrev area : List ℕ
-  area = start.args.area.now
-
-  -- the number of the first no
-  asked : c.ask-no.result ≡ first_no (run_questions F q area)
-  asked =
-      let words = sym (words-known start) in
-      c.ask-no.ensures
-      ∙ ap₂ (λ (y : Bool) (n : ℕ). pick y n 9) c.limit_right.ensures
-      (c.ask-3.ensures
-      ∙ ap₂ (λ (y : Bool) (n : ℕ). pick y n 10)
-      (ap₂ ◌&&◌
-      (c.is_clean-tidy.ensures
-      ∙ clean_own start.args.file.now start.args.shape start.pre.0 start.args.asked start.pre.1.1.1 (fours start))
-      (c.cares_for_all-all.ensures ∙ ap (λ (n : ℕ). cares_for_all n (own start)) words))
-      (c.ask-2.ensures
-      ∙ ap₂ (λ (y : Bool) (n : ℕ). pick y n 11) c.is_edge-edge.ensures
-      (c.ask.ensures
-      ∙ ap (λ (m : ℕ). pick (leb (4 * m) (length area)) 0 12) (c.answer_words.ensures ∙ ap answer_words words))))
-
--- none got a no
-module _ (c : goal.Else-no-ne0) where
-  none : first_no (run_questions (F c) (q c) (area c)) ≡ 0
-  none = sym (asked c) ∙ c.if-no-ne0.false
-
-  yeses : Yeses (run_questions (F c) (q c) (area c))
-  yeses =
-      all_yes (run_questions (F c) (q c) (area c))
-      (omega arith, (omega arith, (omega arith, (omega arith, tt)))) none
-
-  low-limit : (start c).args.limit ≤ 16
-  low-limit = (limit_range _ yeses.0).1
-
--- ---- the needs
+      lent : 4 * answer_words s.words ≤ length area
+      lent = rw (sym words_known) (leb-true _ _ yeses.1.1.1.0)
 
 pub cares_for_all-all-requires : goal.cares_for_all-all-requires
-cares_for_all-all-requires c = width-known c
+cares_for_all-all-requires c = width_said _ (words_said _ _ c.requires.accepted)
 
 pub answer_words-requires : goal.answer_words-requires
-answer_words-requires c = width-known c
+answer_words-requires c = width_said _ (words_said _ _ c.requires.accepted)
 
 pub overflow_mul-room : goal.overflow_mul-room
-overflow_mul-room c = omega (arith, c.answer_words.ensures, (width-known c).high-1)
+overflow_mul-room c = omega (arith, c.answer_words.ensures, (width_said _ (words_said _ _ c.requires.accepted)).high)
 
 pub returns-then-no-ne0 : goal.returns-then-no-ne0
-returns-then-no-ne0 c = no_answered _ _ _ _ (asked c) c.if-no-ne0.true
+returns-then-no-ne0 c =
+    let a = c.args in
+    let fours = set_fours a.asked c.well_formed.1.1.1.1.1.1.1.1.0 in
+    no_answered _ _ _ _
+    (asked a.file.now a.shape c.requires.accepted a.asked c.requires.fits fours a.start a.limit a.budget a.area.now
+    c.is_clean-tidy.ensures c.cares_for_all-all.ensures c.is_edge-edge.ensures c.answer_words.ensures c.limit_right.ensures
+    c.ask.ensures c.ask-2.ensures c.ask-3.ensures c.ask-no.ensures) c.if-no-ne0.true
 
 pub travel-j-requires : goal.travel-j-requires
 travel-j-requires c =
-    let pre = (start c).pre in
-    record { accepted = pre.0; start_table = pre.1.1.0; limit_bound = low-limit c }
+    let a = c.args in
+    let fours = set_fours a.asked c.well_formed.1.1.1.1.1.1.1.1.0 in
+    let none =
+    sym (asked a.file.now a.shape c.requires.accepted a.asked c.requires.fits fours a.start a.limit a.budget a.area.now
+    c.is_clean-tidy.ensures c.cares_for_all-all.ensures c.is_edge-edge.ensures c.answer_words.ensures c.limit_right.ensures
+    c.ask.ensures c.ask-2.ensures c.ask-3.ensures c.ask-no.ensures) ∙ c.if-no-ne0.false in
+    record {
+      accepted = c.requires.accepted;
+      start_table = c.requires.start_table;
+      limit_bound =
+          low_limit a.file.now a.shape c.requires.accepted a.asked c.requires.fits fours a.start a.limit a.budget a.area.now none;
+    }
 
 pub put-requires : goal.put-requires
 put-requires c =
-    let s = start c in
-    let lent : 4 * answer_words (F c).words ≤ length (area c) =
-    leb-true _ _ (yeses c).1.1.1.0 in (
-      width-known s,
-      (
-        omega (arith, lent, words-known s),
-        few_hops_then (wide_in s.args.file.now) s.args.limit s.args.start (wide_of s.args.asked).value
-            c.travel-j.result c.travel-j.ensures (low-limit c),
-      ),
-    )
-    -- TODO record ['width', 'w_in_bounds', 'hops_bound']
+    let a = c.args in
+    let fours = set_fours a.asked c.well_formed.1.1.1.1.1.1.1.1.0 in
+    let none =
+    sym (asked a.file.now a.shape c.requires.accepted a.asked c.requires.fits fours a.start a.limit a.budget a.area.now
+    c.is_clean-tidy.ensures c.cares_for_all-all.ensures c.is_edge-edge.ensures c.answer_words.ensures c.limit_right.ensures
+    c.ask.ensures c.ask-2.ensures c.ask-3.ensures c.ask-no.ensures) ∙ c.if-no-ne0.false in
+    record {
+      width = width_said _ (words_said _ _ c.requires.accepted);
+      w_in_bounds = lent a.file.now a.shape c.requires.accepted a.asked c.requires.fits fours a.start a.limit a.budget a.area.now none;
+      hops_bound =
+          few_hops_then (wide_in a.file.now) a.limit a.start (wide_of a.asked).value c.travel-j.result c.travel-j.ensures
+          (low_limit a.file.now a.shape c.requires.accepted a.asked c.requires.fits fours a.start a.limit a.budget a.area.now none);
+    }
 
 pub answered-requires : goal.answered-requires
-answered-requires c = width-known (start c)
+answered-requires c = width_said _ (words_said _ _ c.requires.accepted)
 
 pub returns : goal.returns
 returns c =
-    let s = start c in
-    let packet = packet_run (F c) (q c) in
-    yes_answered _ _ (packet_words (F c) packet) (area c) _ (none c)
+    let a = c.args in
+    let fours = set_fours a.asked c.well_formed.1.1.1.1.1.1.1.1.0 in
+    let none =
+    sym (asked a.file.now a.shape c.requires.accepted a.asked c.requires.fits fours a.start a.limit a.budget a.area.now
+    c.is_clean-tidy.ensures c.cares_for_all-all.ensures c.is_edge-edge.ensures c.answer_words.ensures c.limit_right.ensures
+    c.ask.ensures c.ask-2.ensures c.ask-3.ensures c.ask-no.ensures) ∙ c.if-no-ne0.false in
+    let F = fabric_in a.file.now in
+    yes_answered _ _ (run_words_asked F (query a.start a.limit a.budget (narrowed a.shape.words (wide_of a.asked)))) a.area.now _ none
     (c.answered.ensures
     ∙ ap (λ (n : ℕ). n * 256)
-    (sym (run_words_long s.args.file.now s.args.shape s.pre.0 s.args.asked s.pre.1.1.1 (fours s)
-    s.args.limit s.args.start c.travel-j.result c.travel-j.ensures)))
+    (sym (run_words_long a.file.now a.shape c.requires.accepted a.asked c.requires.fits fours
+    a.limit a.start c.travel-j.result c.travel-j.ensures)))
     (c.put.ensures
-    ∙ ap (λ (l : List ℕ). written_at 0 l (area c))
-    (journey_own s.args.file.now s.args.shape s.pre.0 s.args.asked s.pre.1.1.1 (fours s)
-    s.args.limit s.args.start c.travel-j.result c.travel-j.ensures))
+    ∙ ap (λ (l : List ℕ). written_at 0 l a.area.now)
+    (journey_own a.file.now a.shape c.requires.accepted a.asked c.requires.fits fours
+    a.limit a.start c.travel-j.result c.travel-j.ensures))

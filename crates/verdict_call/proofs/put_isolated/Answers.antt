@@ -1,8 +1,7 @@
 -- `put_isolated` meets its contract: the words written are those of 'isolated'.
 use mathlib.Core.List.{List, ◌∷◌}
-use mathlib.Core.Path.{◌≡◌, refl, sym, ap, ◌∙◌}
-use Prim.Native.Nat.{ℕ, ◌-◌, ◌≤◌}
-use borrow.Author.Rules.{rules}
+use mathlib.Core.Path.{◌≡◌, refl, ap, ◌∙◌}
+use Prim.Native.Nat.{ℕ, ◌-◌}
 use native.Mathlib.Omega.{arith}
 use lib.ListN.{length, take, replicate}
 use lib.Seq.{length-take-le}
@@ -17,24 +16,17 @@ use Rattle.verdict_call.proofs.put_isolated.Goals as goal
 isolated-words : (units n w : ℕ) → Width w → n ≡ answer_words w → take n (0 ∷ units ∷ replicate 26 0) ≡ verdict_words w (isolated units)
 unfolding verdict_words
 isolated-words units n w width e =
-    rw e (by_width (λ w. take (answer_words w) (0 ∷ units ∷ replicate 26 0) ≡ 0 ∷ units ∷ replicate (answer_words w - 2) 0) refl refl w width)
+    rw e
+    (by_width (λ w. take (answer_words w) (0 ∷ units ∷ replicate 26 0) ≡ 0 ∷ units ∷ replicate (answer_words w - 2) 0) refl refl w width)
 
 -- so many of 28 are written
-few : (c : goal.After-answer-words) → c.answer_words-n.result ≤ 28
-few c = omega (arith, c.answer_words-n.ensures, c.requires.width.high)
-
-written_long : (c : goal.After-answer-words)
-    → length (take c.answer_words-n.result (0 ∷ c.args.units ∷ replicate 26 0)) ≡ c.answer_words-n.result
-written_long c = length-take-le {A = ℕ} _ (0 ∷ c.args.units ∷ replicate 26 0) (few c)
-
-pub slice_bounds-words-end : goal.slice_bounds-words-end
-slice_bounds-words-end c = few c
-
-pub slice_bounds-put_words-end : goal.slice_bounds-put_words-end
-slice_bounds-put_words-end c = sym (written_long c)
+written_long : {n w : ℕ} (units : ℕ) → Width w → n ≡ answer_words w → length (take n (0 ∷ units ∷ replicate 26 0)) ≡ n
+written_long {n = n} units width e = length-take-le {A = ℕ} n (0 ∷ units ∷ replicate 26 0) (omega (arith, width.high))
 
 pub put_words-requires : goal.put_words-requires
-put_words-requires c = omega (arith, written_long c, c.answer_words-n.ensures, c.requires.w_in_bounds)
+put_words-requires c =
+    let e = c.answer_words-n.ensures in
+    omega (arith, written_long c.args.units c.requires.width e, e, c.requires.w_in_bounds)
 
 pub returns : goal.returns
 returns c =
