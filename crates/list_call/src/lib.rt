@@ -1,6 +1,7 @@
 // Document 01's list on an accepted fabric: questions 8 to 10, 13 and 12, and the answer. It returns the number of the first no, or the
 // words of its answer × 256; after a no every lent byte is as it was.
 #![tactic(auto)]
+
 ghost use Rattle.std.specs.Prelude.{true, ◌++◌, ◌≡◌, ◌*◌, ◌≤◌, length, take, drop};
 ghost use Rattle.answer.specs.Answer.{outcome};
 ghost use Rattle.layout.specs.Records.{width_in};

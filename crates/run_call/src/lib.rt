@@ -1,6 +1,7 @@
 // Document 01's packet run on an accepted fabric: questions 9 to 12, and the answer. It returns the number of the first no, or the words
 // of its answer × 256; after a no every lent byte is as it was.
 #![tactic(auto)]
+
 ghost use Rattle.std.specs.Prelude.{◌≡◌};
 ghost use Rattle.answer.specs.Answer.{outcome};
 ghost use Rattle.wide.specs.Forms.{wide_of, narrowed, Fits};

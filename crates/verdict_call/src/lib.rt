@@ -1,6 +1,7 @@
 // Document 01's verdict on an accepted fabric: questions 8 to 13, and the answer. It returns the number of the first no, or the words of
 // its answer × 256; after a no every lent byte is as it was.
 #![tactic(auto)]
+
 ghost use Rattle.std.specs.Prelude.{◌≡◌, ◌*◌, ◌≤◌, length};
 ghost use Rattle.answer.specs.Answer.{answer_words, outcome, written_at};
 ghost use Rattle.layout.specs.Records.{Width};
