@@ -48,7 +48,8 @@ pub fn first_cut(x: &[u8], k: usize, w: usize, p: WideSet) -> Cut
 {
     let low = p.low;
     let free = low.free(records::low_at(x, k, w));
-    if words::none_set(free) {
+    let done = words::none_set(free);
+    if done {
         if w != HALF {
             return cut_high(x, k, w, p);
         }
@@ -145,7 +146,8 @@ pub fn next_cut(x: &[u8], k: usize, w: usize, c: Cut) -> Cut
         low: low.like(bit, records::low_at(x, k, w)),
         high,
     };
-    if words::none_set(left) {
+    let done = words::none_set(left);
+    if done {
         if w != HALF {
             return cut_high(x, k, w, set);
         }

@@ -2,13 +2,13 @@
 use mathlib.Core.Bool.{true≢false, false≢true}
 use mathlib.Core.Path.{refl, sym, ◌∙◌}
 use Rattle.carving.proofs.first_cut.Goals as goal
-use Rattle.carving.proofs.first_cut.Goals.{then-none_set+else-w-ne-HALF, else-none_set}
+use Rattle.carving.proofs.first_cut.Goals.{then-done+else-w-ne-HALF, else-done}
 
 pub cut_high-requires : goal.cut_high-requires
 cut_high-requires c =
     record {
       stored = c.requires;
-      k_value = sym (rw (c.free-free.ensures, c.low_at.ensures) at c.none_set.ensures) ∙ c.if-none_set.true;
+      k_value = sym (rw (c.free-free.ensures, c.low_at.ensures) at c.none_set-done.ensures) ∙ c.if-done.true;
     }
 
 pub returns : goal.returns
@@ -20,9 +20,9 @@ returns c =
         bit_is = c.first_bit.ensures;
         low_done = λ e. absurd (false≢true e);
         narrow = λ e none.
-            elim c.if-none_set.branch [
-              | then-none_set+else-w-ne-HALF w ↦ w.if-w-ne-HALF.false
-              | else-none_set w ↦ absurd (true≢false (sym (c.none_set.ensures ∙ none) ∙ w.if-none_set.false))
+            elim c.if-done.branch [
+              | then-done+else-w-ne-HALF w ↦ w.if-w-ne-HALF.false
+              | else-done w ↦ absurd (true≢false (sym (c.none_set-done.ensures ∙ none) ∙ w.if-done.false))
             ];
       };
       set_value = refl;
