@@ -2,13 +2,13 @@
 
 mod common;
 
-use common::program::{agreed, printed, printed_in_pieces};
+use common::program::{printed, printed_in_pieces};
 use reference::examples::{
     fabric_f, leak_by_choice, replies_behind_a_link, run_query, swapped_and_dropped, wild_query,
 };
 use reference::file::write;
 use reference::query::{input, print, RUN, VERDICT};
-use reference::Header;
+use reference::random::{any, cases, damage, list_query, packet};
 
 /// The calls that the program knows are those from here to the run.
 const FIRST_CALL: u32 = VERDICT;
@@ -16,14 +16,32 @@ const NO_14: &str = "no 14 at 0\n";
 
 #[test]
 fn random_inputs() {
-    common::program::random_inputs::<Header>(2_000_000, 1500);
+    cases(2_000_000, 1500, |rng| {
+        let fabric = any(rng);
+        let call = rng.between(FIRST_CALL as usize, RUN as usize) as u32;
+        let asked = match call {
+            RUN => packet(rng, &fabric),
+            _ => list_query(rng, &fabric, 10_000),
+        };
+        let mut file = write(&fabric);
+        if rng.once_in(3) {
+            file = damage(&file, rng);
+        }
+        let mut bytes = input(call, &asked, &file);
+        match rng.below(12) {
+            0 => bytes.truncate(rng.below(60)),
+            1 => bytes.resize(bytes.len() + rng.between(1, 5), 0),
+            _ => (),
+        }
+        assert_eq!(printed(&bytes), print(&bytes));
+    });
 }
 
 #[test]
 fn inputs_that_stop_short() {
     let whole = input(RUN, &run_query(1, 1, [0; 4]), &fabric_f());
     for length in (0..60).chain([whole.len() - 1, whole.len()]) {
-        let _ = agreed(&whole[..length]);
+        assert_eq!(printed(&whole[..length]), print(&whole[..length]));
     }
 }
 
@@ -45,7 +63,7 @@ fn inputs_longer_than_any_fabric() {
         let mut file = fabric_f();
         file.resize(length, 0);
         let bytes = input(RUN, &run_query(1, 1, [0; 4]), &file);
-        let _ = agreed(&bytes);
+        assert_eq!(printed(&bytes), print(&bytes), "{length} bytes");
     }
 }
 
@@ -63,10 +81,12 @@ fn inputs_that_come_in_pieces() {
 fn a_tied_run() {
     let file = write(&leak_by_choice());
     let asked = input(RUN, &run_query(1, 16, [0, 0, 80, 0]), &file);
-    let text = agreed(&asked);
+    let text = printed(&asked);
+    assert_eq!(text, print(&asked));
     assert!(text.starts_with("ok 24\n00000004\n00000000\n00000001\n00000000\n"));
     let asked = input(VERDICT, &wild_query(2, 16, 1), &file);
-    let text = agreed(&asked);
+    let text = printed(&asked);
+    assert_eq!(text, print(&asked));
     assert!(text.starts_with("ok 24\n00000001\n"));
 }
 
@@ -74,7 +94,12 @@ fn a_tied_run() {
 #[test]
 fn runs_of_replies() {
     let replies = write(&replies_behind_a_link());
-    let ask = |file: &[u8], header| agreed(&input(RUN, &run_query(1, 16, header), file));
+    let ask = |file: &[u8], header| {
+        let asked = input(RUN, &run_query(1, 16, header), file);
+        let text = printed(&asked);
+        assert_eq!(text, print(&asked));
+        text
+    };
     let left = ask(&replies, [4, 0x0a00_0009, 5, 6]);
     assert!(left.starts_with(
         "ok 24\n00000000\n00000000\n00000002\n00000003\n0a000009\n00000004\n00000005\n00000006\n"
@@ -111,7 +136,8 @@ mod trace {
     fn the_longest_list() {
         for (near, far, fits) in [(1634, 4, true), (1633, 5, false), (1638, 0, true)] {
             let asked = input(LIST, &wild_query(1, 2, 31), &write(&many_finds(near, far)));
-            let text = agreed(&asked);
+            let text = printed(&asked);
+            assert_eq!(text, print(&asked));
             assert_eq!(text != "no 12 at 0\n", fits, "{near} and {far}");
         }
     }

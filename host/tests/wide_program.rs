@@ -2,18 +2,58 @@
 
 mod common;
 
-use common::program::{agreed, printed_in_pieces};
+use common::program::{printed, printed_in_pieces};
 use reference::examples::{fabric_f, many_finds, no_arp, wide_f, wild_query};
 use reference::file::write;
 use reference::query::{input, print, LIST, RUN, VERDICT};
+use reference::random::{any, cases, damage, list_query, packet, wide_cases};
 use reference::wide::{widened, Query};
 use reference::{Bits, Wide};
 
 const NO_14: &str = "no 14 at 0\n";
 
+/// What both print.
+fn agreed(input: &[u8]) -> String {
+    let text = printed(input);
+    assert_eq!(text, print(input));
+    text
+}
+
 #[test]
 fn random_inputs() {
-    common::program::random_inputs::<Wide>(15_000_000, 1500);
+    wide_cases(15_000_000, 1500, |rng| {
+        let fabric = any(rng);
+        let call = rng.one_of([VERDICT, LIST, RUN]);
+        let asked = match call {
+            RUN => packet(rng, &fabric),
+            _ => list_query(rng, &fabric, 10_000),
+        };
+        let mut file = write(&fabric);
+        if rng.once_in(3) {
+            file = damage(&file, rng);
+        }
+        let mut bytes = input(call, &asked, &file);
+        match rng.below(12) {
+            0 => bytes.truncate(rng.below(100)),
+            1 => bytes.resize(bytes.len() + rng.between(1, 5), 0),
+            // The mark of version 2 is gone, and the file begins earlier.
+            2 => bytes[3] ^= 0x80,
+            _ => (),
+        }
+        let _ = agreed(&bytes);
+    });
+}
+
+/// Version 1's inputs with the mark of version 2.
+#[test]
+fn inputs_marked_as_version_2() {
+    cases(15_010_000, 200, |rng| {
+        let fabric = any(rng);
+        let asked = list_query(rng, &fabric, 1000);
+        let mut bytes = input(LIST, &asked, &write(&fabric));
+        bytes[3] |= 0x80;
+        let _ = agreed(&bytes);
+    });
 }
 
 /// Fewer than 80 bytes are no query of version 2, and fewer than four no word.

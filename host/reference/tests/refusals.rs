@@ -2,13 +2,13 @@
 
 mod common;
 
-use common::{answer, refused_at_its_place, refused_or_read_back, Call};
+use common::{answer, Call};
 use reference::examples::{
     edge, entry, fabric, fabric_f, file_of, link, record, run_query, wild_query,
 };
 use reference::file::{read, to_le_bytes, to_le_words, write};
-use reference::random::Damage;
-use reference::{list, run, verdict, Fabric, Header, Query, Refusal, Set};
+use reference::random::{any, cases, damage, inflict, Damage};
+use reference::{list, run, verdict, Fabric, Query, Refusal, Set};
 
 /// The refusal of a file of these words after a right start.
 fn refusal_of(records: &[u32]) -> Option<(u8, usize)> {
@@ -272,13 +272,33 @@ fn questions_3_to_7_in_turn() {
 #[test]
 fn each_damage_is_refused_at_its_place() {
     for (number, how) in (0..).zip(Damage::ALL) {
-        refused_at_its_place::<Header>(20_000 + 1000 * number, how);
+        cases(20_000 + 1000 * number, 60, |rng| {
+            let file = write(&any(rng));
+            let damaged = inflict(how, &file, rng);
+            if let Some(expected) = damaged.refusal {
+                assert_eq!(read(&damaged.bytes), Err(expected), "{how:?}");
+            }
+        });
     }
 }
 
+/// Whatever the damage, a file is refused or reads as what it says.
 #[test]
 fn damaged_files_are_refused_or_read_back() {
-    refused_or_read_back::<Header>(100_000, 4000);
+    cases(100_000, 4000, |rng| {
+        let mut bytes = write(&any(rng));
+        for _ in 0..rng.between(1, 3) {
+            bytes = damage(&bytes, rng);
+        }
+        match read(&bytes) {
+            Ok(fabric) => assert_eq!(write(&fabric), bytes),
+            Err(Refusal { number, place }) => {
+                assert!((1..=7).contains(&number));
+                assert_eq!(place == 0, number <= 2);
+                assert!(place <= bytes.len() / 4);
+            }
+        }
+    });
 }
 
 #[test]

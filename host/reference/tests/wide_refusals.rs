@@ -3,14 +3,14 @@
 
 mod common;
 
-use common::{answer, refused_at_its_place, refused_or_read_back, Call};
+use common::{answer, Call};
 use reference::calls;
 use reference::examples::{
     edge, entry, fabric, fabric_f, link, run_query, wide_f, wide_fabric, wide_file_of, wide_record,
     wild_query,
 };
 use reference::file::{read, read_as, to_le_bytes, to_le_words, write};
-use reference::random::{any, cases, largest, wide_cases, Damage, Rng, WideRng};
+use reference::random::{any, cases, damage, inflict, largest, wide_cases, Damage, Rng, WideRng};
 use reference::wide::{list, run, verdict, widened, Edge, Entry, Fabric, Query, Rewrite, Set};
 use reference::{Bits, Refusal, Wide};
 
@@ -282,13 +282,35 @@ fn question_10_in_turn() {
 fn each_damage_is_refused_at_its_place() {
     let all = Damage::ALL.into_iter().chain(Damage::OF_VERSION_2);
     for (number, how) in (0..).zip(all) {
-        refused_at_its_place::<Wide>(2_100_000 + 1000 * number, how);
+        wide_cases(2_100_000 + 1000 * number, 60, |rng| {
+            let file = write(&any(rng));
+            let damaged = inflict(how, &file, rng);
+            if let Some(expected) = damaged.refusal {
+                let read = read_as::<Wide>(&damaged.bytes);
+                assert_eq!(read, Err(expected), "{how:?}");
+            }
+        });
     }
 }
 
+/// Whatever the damage, a file is refused or reads as what it says, in the one
+/// version or the other.
 #[test]
 fn damaged_files_are_refused_or_read_back() {
-    refused_or_read_back::<Wide>(2_200_000, 3000);
+    wide_cases(2_200_000, 3000, |rng| {
+        let mut bytes = write(&any(rng));
+        for _ in 0..rng.between(1, 3) {
+            bytes = damage(&bytes, rng);
+        }
+        match read_as::<Wide>(&bytes) {
+            Ok(fabric) => assert_eq!(write(&fabric), bytes),
+            Err(Refusal { number, place }) => {
+                assert!((1..=7).contains(&number));
+                assert_eq!(place == 0, number <= 2);
+                assert!(place <= bytes.len() / 4);
+            }
+        }
+    });
 }
 
 /// A version 1 file that is marked as version 2 is taken for one: the second edge's

@@ -7,11 +7,11 @@ use std::cell::Cell;
 use reference::brute::{ends, Ends, BUDGET, MOST_WAYS};
 use reference::calls::{answer_words, list, read_answer, run, Answer, Query};
 use reference::fabric::Fabric;
-use reference::file::{read_as, write};
+use reference::file::write;
 use reference::random::source::Rng;
-use reference::random::{any, cases_of, damage, inflict, small, small_query, ties, Damage, Small};
+use reference::random::{cases_of, small, small_query, ties, Small};
 use reference::set::Set;
-use reference::{Bits, Header, Refusal, Words};
+use reference::{Bits, Header, Words};
 
 /// One of the three calls.
 pub type Call<W = [u32; 4]> = fn(&[u8], &mut [u8], &Query<W>) -> u64;
@@ -99,32 +99,4 @@ impl Seen {
         let seen = self.0.get();
         assert!(seen <= ceiling, "{seen}");
     }
-}
-
-/// A file that is damaged in one way, some 60 times, is refused where the damage is.
-pub fn refused_at_its_place<B: Bits>(seed: u64, how: Damage) {
-    cases_of(seed, 60, |rng: &mut Rng<B>| {
-        let damaged = inflict(how, &write(&any(rng)), rng);
-        if let Some(expected) = damaged.refusal {
-            assert_eq!(read_as::<B>(&damaged.bytes), Err(expected), "{how:?}");
-        }
-    });
-}
-
-/// Whatever the damage, a file is refused or reads as what it says.
-pub fn refused_or_read_back<B: Bits>(seed: u64, number: u64) {
-    cases_of(seed, number, |rng: &mut Rng<B>| {
-        let mut bytes = write(&any(rng));
-        for _ in 0..rng.between(1, 3) {
-            bytes = damage(&bytes, rng);
-        }
-        match read_as::<B>(&bytes) {
-            Ok(fabric) => assert_eq!(write(&fabric), bytes),
-            Err(Refusal { number, place }) => {
-                assert!((1..=7).contains(&number));
-                assert_eq!(place == 0, number <= 2);
-                assert!(place <= bytes.len() / 4);
-            }
-        }
-    });
 }
