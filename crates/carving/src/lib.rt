@@ -48,8 +48,7 @@ pub fn first_cut(x: &[u8], k: usize, w: usize, p: WideSet) -> Cut
 {
     let low = p.low;
     let free = low.free(records::low_at(x, k, w));
-    let done = words::none_set(free);
-    if done {
+    if words::none_set(free) {
         if w != HALF {
             return cut_high(x, k, w, p);
         }
@@ -146,8 +145,7 @@ pub fn next_cut(x: &[u8], k: usize, w: usize, c: Cut) -> Cut
         low: low.like(bit, records::low_at(x, k, w)),
         high,
     };
-    let done = words::none_set(left);
-    if done {
+    if words::none_set(left) {
         if w != HALF {
             return cut_high(x, k, w, set);
         }

@@ -2,14 +2,12 @@
 use mathlib.Core.Bool.{true≢false, false≢true}
 use mathlib.Core.Path.{refl, sym, ◌∙◌}
 use Rattle.carving.proofs.first_cut.Goals as goal
-use Rattle.carving.proofs.first_cut.Goals.{then-done+else-w-ne-HALF, else-done}
+use Rattle.carving.proofs.first_cut.Goals.{then-none_set+else-w-ne-HALF, else-none_set}
 
 pub cut_high-requires : goal.cut_high-requires
 cut_high-requires c =
-    record {
-      stored = c.requires;
-      k_value = sym (rw (c.free-free.ensures, c.low_at.ensures) at c.none_set-done.ensures) ∙ c.if-done.true;
-    }
+    let tested = rw (c.free-free.ensures, c.low_at.ensures) at c.none_set.ensures in
+    record { stored = c.requires; k_value = cc }
 
 pub returns : goal.returns
 returns c =
@@ -20,9 +18,9 @@ returns c =
         bit_is = c.first_bit.ensures;
         low_done = λ e. absurd (false≢true e);
         narrow = λ e none.
-            elim c.if-done.branch [
-              | then-done+else-w-ne-HALF w ↦ w.if-w-ne-HALF.false
-              | else-done w ↦ absurd (true≢false (sym (c.none_set-done.ensures ∙ none) ∙ w.if-done.false))
+            elim c.if-none_set.branch [
+              | then-none_set+else-w-ne-HALF w ↦ w.if-w-ne-HALF.false
+              | else-none_set w ↦ absurd (true≢false (sym (c.none_set.ensures ∙ none) ∙ w.if-none_set.false))
             ];
       };
       set_value = refl;

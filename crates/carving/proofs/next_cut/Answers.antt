@@ -11,7 +11,7 @@ use Rattle.wide.specs.Forms.{wide_of}
 use Rattle.carving.proofs.Arrays.{cut_fours}
 use Rattle.carving.proofs.Cuts.{cut_low_next, cut_low_left, cut_high_next, cut_high_left}
 use Rattle.carving.proofs.next_cut.Goals as goal
-use Rattle.carving.proofs.next_cut.Goals.{then-done+else-w-ne-HALF, else-done}
+use Rattle.carving.proofs.next_cut.Goals.{then-none_set+else-w-ne-HALF, else-none_set}
 
 pub returns-then-c : goal.returns-then-c
 returns-then-c c =
@@ -40,7 +40,8 @@ cut_high-requires c =
     let taken = rw c.low_at.ensures at c.like-2.ensures in
     let low-left = c.outside-left.ensures ∙ cut_low_left c.requires.stored c.requires.cut f c.if-c.false c.requires.free_value
     ∙ ap (λ (s : HeaderSet). free half (set_of s) (low_from a.w a.x.now a.k)) (sym taken) in
-    record { stored = c.requires.stored; k_value = sym (c.none_set-done.ensures ∙ ap (no_bit half) low-left) ∙ c.if-done.true }
+    let tested = c.none_set.ensures ∙ ap (no_bit half) low-left in
+    record { stored = c.requires.stored; k_value = cc }
 
 pub returns-then-w-ne-HALF : goal.returns-then-w-ne-HALF
 returns-then-w-ne-HALF c =
@@ -69,9 +70,9 @@ returns c =
         bit_is = c.first_bit-2.ensures;
         low_done = λ e. absurd (false≢true e);
         narrow = λ e none.
-            elim c.if-done.branch [
-              | then-done+else-w-ne-HALF w ↦ w.if-w-ne-HALF.false
-              | else-done w ↦ absurd (true≢false (sym (c.none_set-done.ensures ∙ none) ∙ w.if-done.false))
+            elim c.if-none_set.branch [
+              | then-none_set+else-w-ne-HALF w ↦ w.if-w-ne-HALF.false
+              | else-none_set w ↦ absurd (true≢false (sym (c.none_set.ensures ∙ none) ∙ w.if-none_set.false))
             ];
       };
       set_value =

@@ -10,7 +10,7 @@ returns-then-covers c =
     sym (all_held c.requires f.low f.high (sym c.covers.ensures ∙ c.if-covers.true))
 
 pub leading_part-requires : goal.leading_part-requires
-leading_part-requires c = record { stored = c.requires; k_value = sym c.covers.ensures ∙ c.if-covers.false }
+leading_part-requires c = record { stored = c.requires; k_value = cc }
 
 pub returns : goal.returns
 returns c = sym c.leading_part.ensures
