@@ -313,10 +313,10 @@ stop-loop-e-smaller-else-m t c = fewer_left c.loop-e.invariant c.loop-e-test.tru
 
 pub stop-loop-e-preserved-else-m : goal.stop-loop-e-preserved-else-m
 stop-loop-e-preserved-else-m t c =
-    entry_empty c.loop-e.invariant c.loop-e-test.true c.unit.ensures c.if-not-unit.false c.entry_at-x.ensures c.asked-w.ensures
+    entry_empty c.loop-e.invariant c.loop-e-test.true c.unit.ensures (cc) c.entry_at-x.ensures c.asked-w.ensures
     c.met-m.result
     (back_kept c.asked-w.result c.entry_at-x.result.now (wide_of c.args.t) c.unwritten-u.result c.unwritten-u.ensures c.if-u.true
-    c.keeps.ensures c.if-keeps.true c.met-m.result c.met-m.ensures)
+    c.keeps.ensures (cc) c.met-m.result c.met-m.ensures)
     c.if-m.false c.next_out-next.ensures (kept_same _ c.loop-e.invariant.tracing.on_path.long)
 
 -- an entry that copies or swaps them
