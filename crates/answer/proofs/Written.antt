@@ -22,7 +22,8 @@ bytes_length (w ∷ ws) = let e = bytes_length ws in omega arith
 
 -- the four bytes of a word, stored one after the other
 pub stored_word : (area : List ℕ) (at w : ℕ) → 4 * (at + 1) ≤ length area
-    → set (set (set (set area (at * 4) (w % 256)) (at * 4 + 1) (w / 256 % 256)) (at * 4 + 2) (w / 65536 % 256)) (at * 4 + 3) (w / 16777216 % 256)
+    → set (set (set (set area (at * 4) (w % 256)) (at * 4 + 1) (w / 256 % 256)) (at * 4 + 2) (w / 65536 % 256)) (at * 4 + 3)
+    (w / 16777216 % 256)
     ≡ written_at at (w ∷ []) area
 unfolding written_at bytes_of
 stored_word area at w room =
@@ -31,7 +32,8 @@ stored_word area at w room =
     let c : at * 4 + 3 ≡ suc (suc (suc (at * 4))) = omega arith in
     let d : at * 4 ≡ 4 * at = omega arith in
     let e : 4 * at + 4 ≡ 4 * (at + 1) = omega arith in
-    rw (a, b, c, d) (sets-eq (w % 256 ∷ w / 256 % 256 ∷ w / 65536 % 256 ∷ w / 16777216 % 256 ∷ []) area (4 * at) (omega arith) ∙ rw e)
+    rw (a, b, c, d) (sets-eq (w % 256 ∷ w / 256 % 256 ∷ w / 65536 % 256 ∷ w / 16777216 % 256 ∷ []) area (4 * at) (omega arith)
+    ∙ rw e)
 
 module _ (at : ℕ) (us vs area : List ℕ) (room : 4 * (at + length us) ≤ length area) where
   pub written_next : written_at (at + length us) vs (written_at at us area) ≡ written_at at (us ++ vs) area
@@ -39,11 +41,15 @@ module _ (at : ℕ) (us vs area : List ℕ) (room : 4 * (at + length us) ≤ len
   written_next =
       ap₂ (λ (x y : List ℕ). x ++ bytes_of vs ++ y)
       (take_at (take (4 * at) area ++ bytes_of us) (drop (4 * (at + length us)) area) (4 * (at + length us)) front)
-      (ap (λ (k : ℕ). drop k (take (4 * at) area ++ bytes_of us ++ drop (4 * (at + length us)) area)) (let e : 4 * (at + length us + length vs) ≡ length (take (4 * at) area ++ bytes_of us) + 4 * length vs = omega (arith, front) in e)
+      (ap (λ (k : ℕ). drop k (take (4 * at) area ++ bytes_of us ++ drop (4 * (at + length us)) area)) (let e : 4 *
+      (at + length us + length vs) ≡ length (take (4 * at) area ++ bytes_of us) + 4 * length vs = omega (arith, front) in e)
       ∙ drop-append-add (take (4 * at) area ++ bytes_of us) (drop (4 * (at + length us)) area) (4 * length vs)
       ∙ drop-drop (4 * length vs) (4 * (at + length us)) area
-      ∙ ap (λ (k : ℕ). drop k area) (let e : 4 * (at + length us) + 4 * length vs ≡ 4 * (at + length (us ++ vs)) = omega (arith, length-append us vs) in e))
-      ∙ ap (λ (x : List ℕ). x ++ drop (4 * (at + length (us ++ vs))) area) (append_assoc (take (4 * at) area) (bytes_of us) (bytes_of vs) ∙ ap (λ (x : List ℕ). take (4 * at) area ++ x) (sym (bytes_append us vs)))
+      ∙ ap (λ (k : ℕ). drop k area) (let e : 4 * (at + length us) + 4 * length vs ≡ 4 * (at + length (us ++ vs)) =
+      omega (arith, length-append us vs) in e))
+      ∙ ap (λ (x : List ℕ). x ++ drop (4 * (at + length (us ++ vs))) area)
+      (append_assoc (take (4 * at) area) (bytes_of us) (bytes_of vs)
+      ∙ ap (λ (x : List ℕ). take (4 * at) area ++ x) (sym (bytes_append us vs)))
     where
       front : length (take (4 * at) area ++ bytes_of us) ≡ 4 * (at + length us)
       front = omega (arith, length-append (take (4 * at) area) (bytes_of us), length-take-le (4 * at) area (omega arith), bytes_length us)
@@ -65,7 +71,8 @@ written_none at area room =
     rw (append-nil, let e : at + 0 ≡ at = omega arith in e) (take-append-drop (4 * at) area)
 
 -- one more of the words, of which i are written
-pub written_more : (at i : ℕ) (ws area now : List ℕ) → i < length ws → 4 * (at + length ws) ≤ length area → now ≡ written_at at (take i ws) area
+pub written_more : (at i : ℕ) (ws area now : List ℕ) → i < length ws → 4 * (at + length ws) ≤ length area
+    → now ≡ written_at at (take i ws) area
     → written_at (at + i) (get_or ws i 0 ∷ []) now ≡ written_at at (take (i + 1) ws) area
 written_more at i ws area now l room e =
     let k : length (take i ws) ≡ i = length-take-le i ws (omega arith) in
@@ -81,8 +88,10 @@ written_three a b c area m n la lb room =
     let ab : length (a ++ b) ≡ m + n = omega (arith, length-append a b) in
     let z : 0 + length a ≡ m = omega arith in
     let y : 0 + length (a ++ b) ≡ m + n = omega arith in
-    ap (written_at (m + n) c) (subst (λ (k : ℕ). written_at k b (written_at 0 a area) ≡ written_at 0 (a ++ b) area) z (written_next 0 a b area (omega arith)))
-    ∙ subst (λ (k : ℕ). written_at k c (written_at 0 (a ++ b) area) ≡ written_at 0 (a ++ b ++ c) area) y (written_next 0 (a ++ b) c area (omega arith))
+    ap (written_at (m + n) c)
+    (subst (λ (k : ℕ). written_at k b (written_at 0 a area) ≡ written_at 0 (a ++ b) area) z (written_next 0 a b area (omega arith)))
+    ∙ subst (λ (k : ℕ). written_at k c (written_at 0 (a ++ b) area) ≡ written_at 0 (a ++ b ++ c) area) y
+    (written_next 0 (a ++ b) c area (omega arith))
     ∙ ap (λ (l : List ℕ). written_at 0 l area) (append_assoc a b c)
 
 -- the first w words of a header, its first four and then, if there are more, its last four

@@ -23,7 +23,8 @@ path_kept {d} {path₀} {path} p k = record { long = k.long; within = p.within; 
     at i l m =
         let e : d + (i - d) ≡ i = omega arith in
         let same : get_or path i 0 ≡ get_or path₀ i 0 =
-        rw e at (sym (get_or-drop d path (i - d) 0) ∙ ap (λ (l : List ℕ). get_or l (i - d) 0) k.later ∙ get_or-drop d path₀ (i - d) 0) in
+        rw e at (sym (get_or-drop d path (i - d) 0) ∙ ap (λ (l : List ℕ). get_or l (i - d) 0) k.later
+        ∙ get_or-drop d path₀ (i - d) 0) in
         rw same (p.entries i l m)
 
 -- an entry put at the last free place
@@ -47,7 +48,12 @@ module _ (path : List ℕ) (d e : ℕ) (some-free : 0 < d) (long : length path �
 
   -- and is a path with one place fewer free
   pub path_pushed : Path path d → e < 512 → Path (set path (d - 1) e) (d - 1)
-  path_pushed p l = record { long = length-set path (d - 1) e ∙ long; within = omega (arith, p.within); entries = λ i a b. at i a b (ℕ_discrete i (d - 1)) }
+  path_pushed p l = record {
+    long = length-set path (d - 1) e ∙ long;
+    within = omega (arith, p.within);
+    entries =
+        λ i a b. at i a b (ℕ_discrete i (d - 1));
+  }
     where
       at : (i : ℕ) → d - 1 ≤ i → i < 16 → Dec (i ≡ d - 1) → get_or (set path (d - 1) e) i 0 < 512
       at i a b (yes z) = rw (z, get_or-set_same path (d - 1) e 0 (omega arith)) l

@@ -63,10 +63,12 @@ module _ {f : List ℕ} (a : AFabric f) (x : ℕ) where
       on y = from_port (wide_in f) (stop (wide_in f) hops) y path t
 
       go : (b : Bool) → ltb 0 edge ≡ b
-          → cond (leb 4096 (place_if b)) (found (port_of_edge f (place_if b - 4096))) (on (place_if b)) ≡ cond b (found x) (on ((fabric_in f).link_from x))
+          → cond (leb 4096 (place_if b)) (found (port_of_edge f (place_if b - 4096))) (on (place_if b)) ≡ cond b (found x)
+          (on ((fabric_in f).link_from x))
       go true e =
           let l : 0 < edge = ltb-true 0 edge e in
-          ap (λ (b : Bool). cond b (found (port_of_edge f (4095 + edge - 4096))) (on (4095 + edge))) (le-leb 4096 (4095 + edge) (omega arith))
+          ap (λ (b : Bool). cond b (found (port_of_edge f (4095 + edge - 4096))) (on (4095 + edge)))
+          (le-leb 4096 (4095 + edge) (omega arith))
           ∙ ap found (edge_has l).1
       go false e =
           ap

@@ -2,7 +2,7 @@
 -- up in file order. Assumes nothing.
 use mathlib.Core.Bool.{Bool, true, false, cond}
 use mathlib.Core.List.{List, [], ◌∷◌, ◌++◌, flat_map}
-use mathlib.Core.Option.{Option, some, Option-elim}
+use mathlib.Core.Option.{Option, Option-elim}
 use mathlib.Core.Path.{◌≡◌, refl, sym, ap, ap₂, ◌∙◌}
 use Prim.Native.Nat.{ℕ, zero, suc, ◌+◌, ◌-◌, ◌≤◌, ◌<◌}
 use native.Mathlib.Omega.{arith}
@@ -148,7 +148,8 @@ first_entry {f} {ask} {index} {d} {path} {counters} {area} x place t floor e l n
     n : Next (out_port_of (wide_in f)) (wide_in f).entries place 0 e
     n = chain_head (entries_few x.asked.fabric) x.indexed.by_out_port place e l g
 
-module _ {f ask index : List ℕ} {place : ℕ} {t : Set} {d : ℕ} {path₀ counters₀ area₀ : List ℕ} {e : ℕ} {path counters area : List ℕ}
+module _ {f ask index : List ℕ} {place : ℕ} {t : Set} {d : ℕ} {path₀ counters₀ area₀ : List ℕ} {e : ℕ}
+    {path counters area : List ℕ}
     (x : AtEntry f ask index place t d path₀ counters₀ area₀ e path counters area) where
   abbrev all_events : List Event
   all_events = events_at f place t (d - floor_of ask) (drop d path₀)
@@ -180,7 +181,8 @@ module _ {f ask index : List ℕ} {place : ℕ} {t : Set} {d : ℕ} {path₀ cou
       (carved (wide_in f) (survivor_events f (in_port_of (wide_in f) e) hops (e ∷ drop d path₀)) (beaters (wide_in f) e))
 
   -- what keeps the path with e on it keeps the path
-  pub kept_under : {path₁ : List ℕ} → path₁ ≡ set path (d - 1) e → {path₂ : List ℕ} → Kept (d - 1) path₁ path₂ → Kept d path path₂
+  pub kept_under : {path₁ : List ℕ} → path₁ ≡ set path (d - 1) e → {path₂ : List ℕ} → Kept (d - 1) path₁ path₂
+      → Kept d path path₂
   kept_under h k = kept_pushed path d e (let z = x.hop_left in omega arith) x.tracing.on_path.long (rw h at k)
 
   module _ (l : e < no_entry) where
@@ -273,7 +275,8 @@ module _ {f ask index : List ℕ} {place : ℕ} {t : Set} {d : ℕ} {path₀ cou
           pub entry_ended : (r ≡ 0 → ⊥) → Traced f ask all_events counters₀ area₀ r counters₂ area₂
           entry_ended nz = record {
             played =
-                play_ended (budget_of ask) (found_by f ask) (taken (back_from (width_in f) y t)) (left_from (suc e)) (world_of counters₁ area)
+                play_ended (budget_of ask) (found_by f ask) (taken (back_from (width_in f) y t)) (left_from (suc e))
+                (world_of counters₁ area)
                 (world_of counters₂ area₂) r nz played
                 ∙ after_its_unit;
             counters_long = traced.counters_long;
@@ -291,7 +294,8 @@ module _ {f ask index : List ℕ} {place : ℕ} {t : Set} {d : ℕ} {path₀ cou
             left =
                 ap (λ (es : List Event). run f ask es counters₂ area₂)
                 (sym (left_skips f place hops (drop d path₀) t (suc e) n (next_entry g)))
-                ∙ play_on (budget_of ask) (found_by f ask) (taken (back_from (width_in f) y t)) (left_from (suc e)) (world_of counters₁ area)
+                ∙ play_on (budget_of ask) (found_by f ask) (taken (back_from (width_in f) y t)) (left_from (suc e))
+                (world_of counters₁ area)
                 (world_of counters₂ area₂)
                 (ap (λ (s : ℕ). played_of s counters₂ area₂) (sym z) ∙ played)
                 ∙ after_its_unit;

@@ -25,10 +25,12 @@ module _ {f ask index : List ℕ} {d : ℕ} {path counters area : List ℕ} (t :
   pub entry_as_long : {w e : ℕ} {x : List ℕ} → w ≡ words_asked ask → IsEntry f e x → EntryLong w x
   entry_as_long {x = x} h i = subst (λ (w : ℕ). EntryLong w x) (sym (h ∙ t.asked.width_is)) (entry_long t.asked.fabric i)
 
-  pub match_there : {w e : ℕ} {x : List ℕ} → w ≡ words_asked ask → IsEntry f e x → stored_at w x match_at ≡ ((wide_in f).entry e).matches
+  pub match_there : {w e : ℕ} {x : List ℕ} → w ≡ words_asked ask → IsEntry f e x
+      → stored_at w x match_at ≡ ((wide_in f).entry e).matches
   match_there {x = x} h i = ap (λ (w : ℕ). stored_at w x match_at) (h ∙ t.asked.width_is) ∙ sym (match_is t.asked.fabric i)
 
-  pub after_unit : {made : Bool} {counters' : List ℕ} → UnitMade ask counters made counters' → Tracing f ask index d path counters' area
+  pub after_unit : {made : Bool} {counters' : List ℕ} → UnitMade ask counters made counters'
+      → Tracing f ask index d path counters' area
   after_unit u = record {
     asked = t.asked;
     indexed = t.indexed;
@@ -51,7 +53,8 @@ module _ {f ask index : List ℕ} {d : ℕ} {path counters area : List ℕ} (t :
     room = t.room;
   }
 
-  pub after_call : {events : List Event} {r : ℕ} {path' counters' area' : List ℕ} → Traced f ask events counters area r counters' area'
+  pub after_call : {events : List Event} {r : ℕ} {path' counters' area' : List ℕ}
+      → Traced f ask events counters area r counters' area'
       → Kept d path path' → length area' ≡ length area → Tracing f ask index d path' counters' area'
   after_call {events} x k l = record {
     asked = t.asked;

@@ -27,7 +27,8 @@ pub record Tracing (f ask index : List ℕ) (d : ℕ) (path counters area : List
 -- ---- what a part of the trace leaves
 
 -- its events were played
-pub record Traced (f ask : List ℕ) (events : List Event) (counters₀ area₀ : List ℕ) (r : ℕ) (counters area : List ℕ) : Type 0 where
+pub record Traced (f ask : List ℕ) (events : List Event) (counters₀ area₀ : List ℕ) (r : ℕ)
+    (counters area : List ℕ) : Type 0 where
   pub played : played_of r counters area ≡ play (budget_of ask) (found_by f ask) events (world_of counters₀ area₀)
   pub counters_long : length counters ≡ 2
 

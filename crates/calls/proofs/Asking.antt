@@ -59,10 +59,12 @@ no_answered said number area done e d =
     ∙ ap (λ (k : ℕ). outcome k area) (let z : 0 * 256 + said ≡ said = omega arith in z))
 
 -- with no no the words are answered
-pub yes_answered : (number words : ℕ) (ws area : List ℕ) (last : List ℕ) → number ≡ 0 → words ≡ length ws * 256 → last ≡ written_at 0 ws area
+pub yes_answered : (number words : ℕ) (ws area : List ℕ) (last : List ℕ) → number ≡ 0 → words ≡ length ws * 256
+    → last ≡ written_at 0 ws area
     → outcome words last ≡ or_refused number area (answered ws area)
 unfolding answered written_at
 yes_answered number words ws area last e w l =
     (λ i. outcome (w i) (l i))
-    ∙ ap (λ (k : ℕ). outcome (length ws * 256) (bytes_of ws ++ drop (4 * k) area)) (let z : 0 + length ws ≡ length ws = omega arith in z)
+    ∙ ap (λ (k : ℕ). outcome (length ws * 256) (bytes_of ws ++ drop (4 * k) area)) (let z : 0 + length ws ≡ length ws =
+    omega arith in z)
     ∙ sym (ap (λ (k : ℕ). pick (eqb k 0) (answered ws area) (refused k 0 area)) e)

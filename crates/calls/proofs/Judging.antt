@@ -54,7 +54,8 @@ module _ (f : List ℕ) (q : Query) (area : List ℕ) where
         → judged_pass.world.made ≡ u → judged_pass.world.area ≡ area → C
 
     abbrev Reached : Type 0
-    Reached = (u x : ℕ) (path : List ℕ) (h : Header) → v ≡ reached u x path h → leb (units_in v) q.budget ≡ true → judged_pass.status ≡ 2
+    Reached = (u x : ℕ) (path : List ℕ) (h : Header) → v ≡ reached u x path h → leb (units_in v) q.budget ≡ true
+        → judged_pass.status ≡ 2
         → judged_pass.world.area ≡ written_at 0 (reached_words u x path (take n h)) area → C
 
     by_end : Used → Isolated → Reached → C
@@ -86,7 +87,8 @@ module _ (f : List ℕ) (q : Query) (area : List ℕ) where
       by_end _ (λ d e k. absurd (omega (arith, s, e))) (λ u i d e m k. absurd (omega (arith, s, e)))
       (λ u x path h i d e k.
       k
-      ∙ ap (λ (g : Header). written_at 0 (reached_words u x path g) area) (take_all n h (let l = header_long u x path h i in omega arith))
+      ∙ ap (λ (g : Header). written_at 0 (reached_words u x path g) area)
+      (take_all n h (let l = header_long u x path h i in omega arith))
       ∙ ap (λ (w : Verdict). written_at 0 (verdict_words n w) area) (sym i))
 
   module _ (one : judged_pass.status ≡ 1 → ⊥) (two : judged_pass.status ≡ 2 → ⊥) where

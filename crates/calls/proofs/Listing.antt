@@ -126,7 +126,8 @@ few_parts n g few (s ∷ l) e =
 few_entries : (g : ℕ → List Event) → ((e : ℕ) → Few 0 (g e)) → (l : List ℕ) → Few 0 (flat_map g l)
 unfolding flat_map finds list_words units
 few_entries g few [] = omega arith
-few_entries g few (e ∷ l) = omega (arith, few e, few_entries g few l, words_append (g e) (flat_map g l), units_append (g e) (flat_map g l))
+few_entries g few (e ∷ l) =
+    omega (arith, few e, few_entries g few l, words_append (g e) (flat_map g l), units_append (g e) (flat_map g l))
 
 module _ (F : Fabric) (eight : F.words ≤ 8) where
   few_carved : (next : Set → List Event) → ((s : Set) → Sized F.words s → Few 33 (next s))
@@ -158,7 +159,8 @@ module _ (F : Fabric) (eight : F.words ≤ 8) where
         length-append (find_words (record { port = x; path = path; set = p })) [],
       )
 
-  few_at : (next : ℕ → Set → List ℕ → List Event) (x : ℕ) (path : List ℕ) → length path ≤ 16 → ((o : ℕ) (t : Set) → Few 0 (next o t path))
+  few_at : (next : ℕ → Set → List ℕ → List Event) (x : ℕ) (path : List ℕ) → length path ≤ 16
+      → ((o : ℕ) (t : Set) → Few 0 (next o t path))
       → (p : Set) → Sized F.words p → Few 33 (at_in_port F next x path p)
   unfolding at_in_port finds list_words units
   few_at next x path short few p s = go (F.is_edge x) (F.link_from x)

@@ -20,7 +20,8 @@ pub first_no_said : (qs more : List Question) → (first_no qs ≡ 0 → ⊥) �
 first_no_said [] more d = absurd (d refl)
 first_no_said (q ∷ qs) more d = go q.yes d (first_no_said qs more)
   where
-    go : (b : Bool) → (pick b (first_no qs) q.number ≡ 0 → ⊥) → ((first_no qs ≡ 0 → ⊥) → first_no (qs ++ more) ≡ first_no qs)
+    go : (b : Bool) → (pick b (first_no qs) q.number ≡ 0 → ⊥)
+        → ((first_no qs ≡ 0 → ⊥) → first_no (qs ++ more) ≡ first_no qs)
         → pick b (first_no (qs ++ more)) q.number ≡ pick b (first_no qs) q.number
     go true d ih = ih d
     go false d ih = refl

@@ -67,7 +67,8 @@ clean_wider w s long low =
     (ap (λ (x : ℕ). eqb (bits 7 0 x) 0) (word_longer s.care (wide_words - w) 7))
 
 -- the first w of words that are 0 from there on
-words_narrowed : (w k : ℕ) (l m : List ℕ) → l ≡ m ++ words k (λ i. 0) → length m ≡ w → w ≤ wide_words → Words wide_words l → Words w m
+words_narrowed : (w k : ℕ) (l m : List ℕ) → l ≡ m ++ words k (λ i. 0) → length m ≡ w → w ≤ wide_words
+    → Words wide_words l → Words w m
 words_narrowed w k l m e long low fit = record {
   long = long;
   fits = λ i inside. rw (sym (word_longer m k i), sym e) (fit.fits i (omega arith));

@@ -155,7 +155,8 @@ module _ {x : List ℕ} {k w : ℕ} (stored : Stored x k w) {p q : Set} (fp : Fo
         ≡ some (beside (taking half (first_bit half low_free) (turned half (low_from w x k)) p) q)
     first_low e = first_is (none_free stored fp fq ∙ ap (λ (b : Bool). b && no_bit half high_free) e) ∙ ap some (low_part e)
 
-    pub first_high : no_bit half low_free ≡ true → (overlaps wide_words (beside p q) (stored_at w x k) && no_bit wide_words all_free) ≡ false
+    pub first_high : no_bit half low_free ≡ true
+        → (overlaps wide_words (beside p q) (stored_at w x k) && no_bit wide_words all_free) ≡ false
         → head? (carve wide_words (beside p q) (stored_at w x k))
         ≡ some (beside p (taking half (first_bit half high_free) (turned half (high_from w x k)) q))
     first_high e u = first_is (left_to_last _ _ _ refl meets ∙ u) ∙ ap some (high_part e)
@@ -173,7 +174,8 @@ module _ {x : List ℕ} {k w : ℕ} {c : Cut} (stored : Stored x k w) (is : IsCu
   pub done_exactly : no_bit half c.free ≡ no_bit wide_words (free_left w x k c)
   done_exactly = go c.high refl ∙ sym (none_free stored f.low f.high)
     where
-      narrowed : (b : Bool) → c.high ≡ false → no_bit half c.free ≡ b → b ≡ (b && no_bit half (free half high (high_from w x k)))
+      narrowed : (b : Bool) → c.high ≡ false → no_bit half c.free ≡ b
+          → b ≡ (b && no_bit half (free half high (high_from w x k)))
       narrowed true e n = sym (wild_free stored (is.narrow e n) high)
       narrowed false e n = refl
 

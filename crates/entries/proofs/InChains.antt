@@ -9,7 +9,8 @@ use Rattle.index.specs.Chains.{no_entry, Chain}
 use Rattle.index.proofs.Chained.{Next, next_found}
 use Rattle.entries.specs.Entries.{InChain}
 
-module _ {port_of : ℕ → ℕ} {n first next : ℕ} {cells : List ℕ} (small : n ≤ no_entry) (c : Chain n port_of first next 0 cells) where
+module _ {port_of : ℕ → ℕ} {n first next : ℕ} {cells : List ℕ} (small : n ≤ no_entry)
+    (c : Chain n port_of first next 0 cells) where
   -- the first entry with the port p
   pub chain_head : (p r : ℕ) → p < 4096 → r ≡ get_or cells (first + p) 0 → Next port_of n p 0 r
   chain_head p r l e = subst (Next port_of n p 0) (sym (e ∙ c.heads p l)) (next_found port_of n p small 0 (omega arith))

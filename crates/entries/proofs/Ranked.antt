@@ -58,7 +58,8 @@ module _ (f : Fabric) (q : ℕ) where
       go (yes l) = ap (λ (y : ℕ). ranked_from f y q r) (sym (n.found l))
       go (no l) = from_end (test x) f.entries r (omega arith) ∙ sym (from_end (test (in_port_of f r)) f.entries r (omega arith))
 
-  pub ranked_here : (b : ℕ) → b < f.entries → q ≤ priority_of f b → chained f q b ≡ b ∷ ranked_from f (in_port_of f b) q (suc b)
+  pub ranked_here : (b : ℕ) → b < f.entries → q ≤ priority_of f b → chained f q b ≡ b ∷ ranked_from f (in_port_of f b) q
+      (suc b)
   ranked_here b l h =
       from_here (test (in_port_of f b)) f.entries b l (ap₂ ◌&&◌ (eq-eqb (in_port_of f b) _ refl) (le-leb q (priority_of f b) h))
 

@@ -36,21 +36,23 @@ unit_within budget w l = go (ltb w.made budget) refl
     go true h = let m = ltb-true w.made budget h in omega arith
     go false h = l
 
-module _ (budget : ℕ) (found : Find → World → Played) (makes_none : (d : Find) (w : World) → (found d w).world.made ≡ w.made) where
-  step_within : (e : Event) (w : World) → w.made ≤ budget → (step budget found e w).world.made ≤ budget
-  unfolding step
-  step_within unit w l = unit_within budget w l
-  step_within (find d) w l = rw (makes_none d w) l
+module _ (budget : ℕ) (found : Find → World → Played) (makes_none : (d : Find) (w : World) → (found d w).world.made ≡ w.made)
+  where
+    step_within : (e : Event) (w : World) → w.made ≤ budget → (step budget found e w).world.made ≤ budget
+    unfolding step
+    step_within unit w l = unit_within budget w l
+    step_within (find d) w l = rw (makes_none d w) l
 
-  pub play_within : (es : List Event) (w : World) → w.made ≤ budget → (play budget found es w).world.made ≤ budget
-  unfolding play
-  play_within [] w l = l
-  play_within (e ∷ es) w l = go (step budget found e w) (step_within e w l) (play_within es)
-    where
-      go : (p : Played) → p.world.made ≤ budget → ((v : World) → v.made ≤ budget → (play budget found es v).world.made ≤ budget)
-          → (next_if p.status p (play budget found es)).world.made ≤ budget
-      go p m ih = by p.status
-        where
-          by : (s : ℕ) → (next_if s p (play budget found es)).world.made ≤ budget
-          by zero = ih p.world m
-          by (suc s) = m
+    pub play_within : (es : List Event) (w : World) → w.made ≤ budget → (play budget found es w).world.made ≤ budget
+    unfolding play
+    play_within [] w l = l
+    play_within (e ∷ es) w l = go (step budget found e w) (step_within e w l) (play_within es)
+      where
+        go : (p : Played) → p.world.made ≤ budget
+            → ((v : World) → v.made ≤ budget → (play budget found es v).world.made ≤ budget)
+            → (next_if p.status p (play budget found es)).world.made ≤ budget
+        go p m ih = by p.status
+          where
+            by : (s : ℕ) → (next_if s p (play budget found es)).world.made ≤ budget
+            by zero = ih p.world m
+            by (suc s) = m

@@ -21,7 +21,8 @@ written_both at us vs area p q e room =
     q ∙ ap₂ (λ (k : ℕ) (l : List ℕ). written_at k vs l) e p ∙ written_next at us vs area (omega arith)
 
 -- the first w words of four and four
-pub narrowed_long : {w : ℕ} → Width w → (l r : List ℕ) → length l ≡ half → length r ≡ half → length (take w (l ++ r)) ≡ w
+pub narrowed_long : {w : ℕ} → Width w → (l r : List ℕ) → length l ≡ half → length r ≡ half
+    → length (take w (l ++ r)) ≡ w
 narrowed_long {w = w} d l r low high = length-take-le w (l ++ r) (omega (arith, length-append l r, d.high))
 
 -- ---- the words of entries
@@ -31,7 +32,8 @@ abbrev pub entry_words : List ℕ → List ℕ
 entry_words path = map (λ e. 7 * 2 ^ 28 + e) path
 
 -- with entry i's word written at `at`, those after it are left to be written from the next place on
-pub entries_next : (at place i : ℕ) (path area : List ℕ) {now : List ℕ} → now ≡ written_at at ((7 * 2 ^ 28 + get_or path i 0) ∷ []) area
+pub entries_next : (at place i : ℕ) (path area : List ℕ) {now : List ℕ}
+    → now ≡ written_at at ((7 * 2 ^ 28 + get_or path i 0) ∷ []) area
     → place ≡ at + 1 → i < length path → 4 * (at + 1) ≤ length area
     → written_at place (entry_words (drop (i + 1) path)) now ≡ written_at at (entry_words (drop i path)) area
 entries_next at place i path area p e inside room =

@@ -61,7 +61,8 @@ module _ (n budget : ℕ) where
       (lt-ltb w.words too_many (omega arith))
       (λ room. le-leb (w.words + length (find_words (narrow_find n d))) (length w.area / 4) (omega (arith, size))) (listed_all es)
     where
-      size : length (find_words (narrow_find n d) ++ list_words (finds_in n es)) ≡ length (find_words (narrow_find n d)) + words_of (finds_in n es)
+      size : length (find_words (narrow_find n d) ++ list_words (finds_in n es)) ≡ length (find_words (narrow_find n d)) + words_of
+          (finds_in n es)
       size = length-append (find_words (narrow_find n d)) (list_words (finds_in n es))
 
       -- the world after it, by whether the count is below its limit, and whether there is room
@@ -72,7 +73,8 @@ module _ (n budget : ℕ) where
         area = cond c (written_at w.words (find_words (narrow_find n d)) w.area) w.area;
       }
 
-      go : (b c : Bool) → b ≡ true → (4 * (w.words + words_of (finds_in n (find d ∷ es))) ≤ length w.area → c ≡ true) → Listed es
+      go : (b c : Bool) → b ≡ true → (4 * (w.words + words_of (finds_in n (find d ∷ es))) ≤ length w.area → c ≡ true)
+          → Listed es
           → ListedAll w (finds_in n (find d ∷ es)) (play budget (listed n) es (next b c))
       go false c below fits ih = absurd (false≢true below)
       go true false below fits ih =

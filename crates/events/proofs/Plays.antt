@@ -21,7 +21,8 @@ then_then p f g = go p.status refl
 
 module _ (budget : ℕ) (found : Find → World → Played) where
   -- two lists of events, one after the other
-  pub play_append : (a b : List Event) (w : World) → play budget found (a ++ b) w ≡ and_then (play budget found a w) (play budget found b)
+  pub play_append : (a b : List Event) (w : World) → play budget found (a ++ b) w ≡ and_then (play budget found a w)
+      (play budget found b)
   unfolding play
   play_append [] b w = refl
   play_append (e ∷ a) b w =

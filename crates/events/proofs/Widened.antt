@@ -68,7 +68,8 @@ module _ (n : ℕ) (F : Fabric) (sound : Sound F) (l : F.words ≤ n) where
     where
       packet : foreign_packet G target (wider_find more d) ≡ Option.map (longer more) (foreign_packet F target d)
       packet =
-          ap (λ (g : Fabric). foreign_packet g target (wider_find more d)) (wider_to_lem n F l) ∙ foreign_packet_wider more F sound target d w
+          ap (λ (g : Fabric). foreign_packet g target (wider_find more d)) (wider_to_lem n F l)
+          ∙ foreign_packet_wider more F sound target d w
 
       go : (o : Option Header) → foreign_packet F target d ≡ o
           → judged_by G F.words target (Option.map (longer more) o) (wider_find more d) v ≡ judged_by F F.words target o d v
@@ -99,7 +100,8 @@ module _ (n : ℕ) (F : Fabric) (sound : Sound F) (l : F.words ≤ n) where
         ≡ play budget (listed F.words) (list_trace F limit target t) v
     list_pass_same budget v =
         ap (λ (es : List Event). play budget (listed F.words) es v)
-        (ap (λ (g : Fabric). list_trace g limit target (padded more t)) (wider_to_lem n F l) ∙ list_trace_wider more F sound limit target t wt)
+        (ap (λ (g : Fabric). list_trace g limit target (padded more t)) (wider_to_lem n F l)
+        ∙ list_trace_wider more F sound limit target t wt)
         ∙ play_same more budget (listed F.words) (listed F.words) (list_trace F limit target t)
         (λ d m. listed_same d (finds_formed d m)) v
 

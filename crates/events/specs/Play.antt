@@ -1,6 +1,7 @@
 -- What the code does with the events of a trace: document 01, "The back-trace and its count". The trace itself knows no budget, no early
 -- stop and no area; they are here, a line each. Assumes nothing.
-use Rattle.std.specs.Prelude.{Bool, true, false, cond, List, [], ◌∷◌, ◌++◌, map, ℕ, zero, suc, ◌+◌, ◌*◌, ◌/◌, ◌^◌, ltb, leb, length, take}
+use Rattle.std.specs.Prelude.{Bool, true, false, cond, List, [], ◌∷◌, ◌++◌, map, ℕ, zero, suc, ◌+◌, ◌*◌, ◌/◌}
+use Rattle.std.specs.Prelude.{◌^◌, ltb, leb, length, take}
 use Rattle.std.proofs.Math.Option.{Option, some, none}
 use Rattle.headers.specs.Sets.{Header}
 use Rattle.answer.specs.Answer.{written_at, sixteen}

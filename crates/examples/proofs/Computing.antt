@@ -74,7 +74,8 @@ unfoldable pub room_then : ℕ → List ℕ → List ℕ → Bool → Outcome
 room_then later words area b = or_refused (pick b later 12) area (answered words area)
 
 module _ (bytes later : ℕ) (words area : List ℕ) where
-  pub enough : bytes ≤ length area → room_then later words area (leb bytes (length area)) ≡ or_refused later area (answered words area)
+  pub enough : bytes ≤ length area → room_then later words area (leb bytes (length area)) ≡ or_refused later area
+      (answered words area)
   unfolding room_then
   enough l = ap (room_then later words area) (le-leb bytes (length area) l)
 

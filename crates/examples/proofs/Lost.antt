@@ -46,7 +46,8 @@ lost_there : ℕ → List ℕ → List Event
 lost_there hops ports = flat_map (lost_at F (stop F hops) (tp_dst 5)) ports
 
 by_ports : (hops budget : ℕ) (area : List ℕ)
-    → list_call 4 K (lost (suc hops) budget) area ≡ answer_of (lost_there hops (1 ∷ 4 ∷ 6 ∷ 8 ∷ [])) (lost (suc hops) budget) area
+    → list_call 4 K (lost (suc hops) budget) area ≡ answer_of (lost_there hops (1 ∷ 4 ∷ 6 ∷ 8 ∷ []))
+    (lost (suc hops) budget) area
 unfolding list_call answer_of lost_there lost_trace
 by_ports hops budget area =
     ap (λ (r : Read). list_answer K (lost (suc hops) budget) r area) K-read

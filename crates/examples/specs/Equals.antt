@@ -55,12 +55,14 @@ pub record EqualsTable : Type 0 where
   pub listed : Always 84 (list_call 4 H (leaving 4 2 6)) (answered two_ways)
   pub budget_3 : Always 0 (list_call 4 H (leaving 3 2 6)) (refused 13 0)
   -- the run of the packet that one_choice shows: tied behind the link, after entry 3
-  pub tied : Always 96 (run_call 4 H (packet 1 2 (header 0 0 2 0))) (answered (4 ∷ 0 ∷ 4 ∷ 1 ∷ (header 0 0 2 0 ++ way (3 ∷ []) 15)))
+  pub tied : Always 96 (run_call 4 H (packet 1 2 (header 0 0 2 0)))
+      (answered (4 ∷ 0 ∷ 4 ∷ 1 ∷ (header 0 0 2 0 ++ way (3 ∷ []) 15)))
   -- at the limit a link leads on, whatever stands there
   pub at_the_limit : Always 96 (run_call 4 H (packet 1 1 (header 0 0 2 0)))
       (answered (3 ∷ 0 ∷ 4 ∷ 1 ∷ (header 0 0 2 0 ++ way (3 ∷ []) 15)))
   -- at the start, with both ways leading to port 2
-  pub tied_at_once : Always 96 (run_call 4 H (packet 1 2 (header 0 0 0 6))) (answered (4 ∷ 0 ∷ 1 ∷ 0 ∷ (header 0 0 0 6 ++ way [] 16)))
+  pub tied_at_once : Always 96 (run_call 4 H (packet 1 2 (header 0 0 0 6)))
+      (answered (4 ∷ 0 ∷ 1 ∷ 0 ∷ (header 0 0 0 6 ++ way [] 16)))
   -- the equals 1 and 2 are below entry 0, which drops it; and entry 2 alone holds the last
   pub higher_drops : Always 96 (run_call 4 H (packet 1 2 (header 0 0 3 0)))
       (answered (1 ∷ 0 ∷ 4 ∷ 2 ∷ (header 0 0 3 0 ++ way (3 ∷ 0 ∷ []) 14)))

@@ -23,7 +23,8 @@ use Rattle.fabric.specs.Calls.{questions_of, words_of, answer_of, call_of}
 use Rattle.fabric.specs.declared.Call.{Call}
 use Rattle.fabric.specs.declared.Call.TheVariants as Calls
 
-pub call_answers : (c : Call) (w : ℕ) (f : List ℕ) (q : Query) (area : List ℕ) → answer_of c f q (accepted w f) area ≡ call_of c w f q area
+pub call_answers : (c : Call) (w : ℕ) (f : List ℕ) (q : Query) (area : List ℕ)
+    → answer_of c f q (accepted w f) area ≡ call_of c w f q area
 unfolding verdict_call list_call run_call
 call_answers Calls.Verdict w f q area = refl
 call_answers Calls.List w f q area = refl
@@ -49,7 +50,8 @@ pub record AllYes (c : Call) (w : ℕ) (f : List ℕ) (q : Query) (area : List �
   pub no_no : first_no (questions_of c (fabric_in f) q area) ≡ 0
   pub yeses : Yeses (questions_of c (fabric_in f) q area)
 
-pub succeeded : (c : Call) (w : ℕ) → Width w → (f : List ℕ) (q : Query) (area : List ℕ) → (call_of c w f q area).returned % 256 ≡ 0
+pub succeeded : (c : Call) (w : ℕ) → Width w → (f : List ℕ) (q : Query) (area : List ℕ)
+    → (call_of c w f q area).returned % 256 ≡ 0
     → AllYes c w f q area
 unfolding refused
 succeeded c w width f q area e =

@@ -185,7 +185,8 @@ module _ (n : ℕ) (d : Find) (s : Sayable n d) (rest : List ℕ) where
 abbrev pub AllSayable : ℕ → List Find → Type 0
 AllSayable n ds = (d : Find) → Memᴰ d ds → Sayable n d
 
-pub finds_back : (n : ℕ) (ds : List Find) → AllSayable n ds → (k : ℕ) → length (list_words ds) ≤ k → finds_read n k (list_words ds) ≡ some ds
+pub finds_back : (n : ℕ) (ds : List Find) → AllSayable n ds → (k : ℕ) → length (list_words ds) ≤ k
+    → finds_read n k (list_words ds) ≡ some ds
 unfolding list_words finds_read
 finds_back n [] s zero l = refl
 finds_back n [] s (suc k) l = refl

@@ -1,6 +1,7 @@
 -- The user's three demands, clauses D1 to D3g; proofs/Demands.antt proves them. They speak of forwarding, and of what a call returns and
 -- leaves in the area lent: that a call ends, and returns and leaves what `call_of` says, is its contract. Assumes nothing.
-use Rattle.std.specs.Prelude.{Bool, true, ◌&&◌, cond, ◌↔◌, ◌≡◌, ℕ, zero, suc, ◌+◌, ◌/◌, ◌%◌, ◌^◌, ◌≤◌, ◌<◌, eqb, leb, length, drop}
+use Rattle.std.specs.Prelude.{Bool, true, ◌&&◌, cond, ◌↔◌, ◌≡◌, ℕ, zero, suc, ◌+◌, ◌/◌, ◌%◌, ◌^◌}
+use Rattle.std.specs.Prelude.{◌≤◌, ◌<◌, eqb, leb, length, drop}
 use mathlib.Core.List.{List, [], ◌∷◌, ◌++◌, reverse, Memᴰ}
 use Rattle.std.proofs.Math.Option.{Option, some, none, map}
 use Rattle.headers.specs.Bits.{Words, word, words, every}

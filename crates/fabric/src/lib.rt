@@ -152,7 +152,10 @@ pub fn fabric_verdict(
     value3: u32,
 ) -> u64
     ensures { outcome result area.new ≡ verdict_call 4 file.now
-        (query target limit budget (record { care = care0 ∷ care1 ∷ care2 ∷ care3 ∷ []; value = value0 ∷ value1 ∷ value2 ∷ value3 ∷ [] }))
+        (query target limit budget (record {
+          care = care0 ∷ care1 ∷ care2 ∷ care3 ∷ [];
+          value = value0 ∷ value1 ∷ value2 ∷ value3 ∷ [];
+        }))
         area.old }
 {
     make(
@@ -237,7 +240,10 @@ pub fn fabric_list(
     value3: u32,
 ) -> u64
     ensures { outcome result area.new ≡ list_call 4 file.now
-        (query target limit budget (record { care = care0 ∷ care1 ∷ care2 ∷ care3 ∷ []; value = value0 ∷ value1 ∷ value2 ∷ value3 ∷ [] }))
+        (query target limit budget (record {
+          care = care0 ∷ care1 ∷ care2 ∷ care3 ∷ [];
+          value = value0 ∷ value1 ∷ value2 ∷ value3 ∷ [];
+        }))
         area.old }
 {
     make(
@@ -322,7 +328,10 @@ pub fn fabric_run(
     value3: u32,
 ) -> u64
     ensures { outcome result area.new ≡ run_call 4 file.now
-        (query start limit budget (record { care = care0 ∷ care1 ∷ care2 ∷ care3 ∷ []; value = value0 ∷ value1 ∷ value2 ∷ value3 ∷ [] }))
+        (query start limit budget (record {
+          care = care0 ∷ care1 ∷ care2 ∷ care3 ∷ [];
+          value = value0 ∷ value1 ∷ value2 ∷ value3 ∷ [];
+        }))
         area.old }
 {
     make(

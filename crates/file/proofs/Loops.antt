@@ -155,7 +155,8 @@ module _ (f : List ℕ) (e l place last : ℕ) (starts ends : List ℕ) (s : Lin
 
 -- ---- entries
 
-pub entries_start : (f : List ℕ) (hw e l place : ℕ) → hw ≡ width_in f → place ≡ place_of hw e l 0 → place_in f e l 0 ≤ words_in f
+pub entries_start : (f : List ℕ) (hw e l place : ℕ) → hw ≡ width_in f → place ≡ place_of hw e l 0
+    → place_in f e l 0 ≤ words_in f
     → EntriesSoFar f e l 0 place (replicate 4096 0)
 entries_start f hw e l place hh hp h = record {
   so_far = started f e l hw place hh hp h;

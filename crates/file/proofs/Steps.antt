@@ -21,7 +21,8 @@ use Rattle.file.specs.Reading.{rest}
 one_more : (n : ℕ) → ltb 0 (n + 1) ≡ true
 one_more n = lt-ltb 0 (n + 1) (omega arith)
 
-pub edge_passed : (f : List ℕ) (e : ℕ) → kind_of (word_at f (place_in f e 0 0)) ≡ 2 → passed f (passed_at f e 0 0) ≡ passed_at f (e + 1) 0 0
+pub edge_passed : (f : List ℕ) (e : ℕ) → kind_of (word_at f (place_in f e 0 0)) ≡ 2
+    → passed f (passed_at f e 0 0) ≡ passed_at f (e + 1) 0 0
 unfolding passed passed_at
 edge_passed f e k =
     let at : place_in f e 0 0 + edge_words (width_in f) ≡ place_in f (e + 1) 0 0 = omega arith in
@@ -57,22 +58,26 @@ module _ (f : List ℕ) (e l n : ℕ) (inside : place_in f e l n ≤ words_in f)
   stops q x a z = step ∙ simp (sym a, ne_eqb q 0 z)
 
   -- the end
-  pub ends_there : kind_of (word_at f (place_in f e l n)) ≡ 5 → asked_at f e l n ≡ 0 → rest f e l n ≡ Fabric (shape (width_in f) e l n)
+  pub ends_there : kind_of (word_at f (place_in f e l n)) ≡ 5 → asked_at f e l n ≡ 0
+      → rest f e l n ≡ Fabric (shape (width_in f) e l n)
   ends_there k a = step ∙ simp (a, k)
 
   -- any other record
-  next : (e' l' n' k : ℕ) → kind_of (word_at f (place_in f e l n)) ≡ k → (k ≡ 5 → ⊥) → asked_at f e l n ≡ 0 → e' + l' + n' ≡ e + l + n + 1
+  next : (e' l' n' k : ℕ) → kind_of (word_at f (place_in f e l n)) ≡ k → (k ≡ 5 → ⊥) → asked_at f e l n ≡ 0
+      → e' + l' + n' ≡ e + l + n + 1
       → passed f (passed_at f e l n) ≡ passed_at f e' l' n' → rest f e l n ≡ rest f e' l' n'
   unfolding rest
   next e' l' n' k h d a more s =
       let m : words_in f - suc (e + l + n) ≡ words_in f - (e' + l' + n') = omega arith in
       step ∙ simp (a, h, ne_eqb k 5 d) (ap₂ (λ (x : ℕ) (y : Passed). records x f y) m s)
 
-pub next_edge : (f : List ℕ) (e : ℕ) → place_in f e 0 0 ≤ words_in f → kind_of (word_at f (place_in f e 0 0)) ≡ 2 → asked_at f e 0 0 ≡ 0
+pub next_edge : (f : List ℕ) (e : ℕ) → place_in f e 0 0 ≤ words_in f → kind_of (word_at f (place_in f e 0 0)) ≡ 2
+    → asked_at f e 0 0 ≡ 0
     → rest f e 0 0 ≡ rest f (e + 1) 0 0
 next_edge f e i k a = next f e 0 0 i (e + 1) 0 0 2 k (λ z. let y : ⊥ = omega arith in y) a (omega arith) (edge_passed f e k)
 
-pub next_link : (f : List ℕ) (e l : ℕ) → place_in f e l 0 ≤ words_in f → kind_of (word_at f (place_in f e l 0)) ≡ 3 → asked_at f e l 0 ≡ 0
+pub next_link : (f : List ℕ) (e l : ℕ) → place_in f e l 0 ≤ words_in f → kind_of (word_at f (place_in f e l 0)) ≡ 3
+    → asked_at f e l 0 ≡ 0
     → rest f e l 0 ≡ rest f e (l + 1) 0
 next_link f e l i k a = next f e l 0 i e (l + 1) 0 3 k (λ z. let y : ⊥ = omega arith in y) a (omega arith) (link_passed f e l k)
 

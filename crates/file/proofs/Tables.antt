@@ -24,7 +24,8 @@ pub empty : Empty (replicate 4096 0)
 empty = zeros (number []) (λ p. refl)
 
 -- a store at i, where the new function has the value v at i and is the old one elsewhere
-stored : (g h : ℕ → ℕ) (t : List ℕ) (i v : ℕ) → i < 4096 → Table g t → ((p : ℕ) → h p ≡ pick (eqb p i) v (g p)) → Table h (set t i v)
+stored : (g h : ℕ → ℕ) (t : List ℕ) (i v : ℕ) → i < 4096 → Table g t → ((p : ℕ) → h p ≡ pick (eqb p i) v (g p))
+    → Table h (set t i v)
 stored g h t i v l T e = record { long = length-set t i v ∙ T.long; holds = λ p q. go p q (ℕ_discrete p i) }
   where
     go : (p : ℕ) → p < 4096 → Dec (p ≡ i) → get_or (set t i v) p 0 ≡ h p

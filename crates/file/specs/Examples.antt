@@ -1,6 +1,7 @@
 -- E1 and E7 of document 01, and refusals by each question with its place, in a call for version 1 and in one for version 2: two tables,
 -- computed by the questions.
-use Rattle.std.specs.Prelude.{List, [], ◌∷◌, ◌++◌, map, ◌≡◌, refl, ℕ, zero, suc, ◌+◌, ◌*◌, ◌/◌, ◌%◌, replicate, set}
+use Rattle.std.specs.Prelude.{List, [], ◌∷◌, ◌++◌, map, ◌≡◌, refl, ℕ, zero, suc, ◌+◌, ◌*◌, ◌/◌, ◌%◌}
+use Rattle.std.specs.Prelude.{replicate, set}
 use Rattle.layout.specs.Words.{word_at}
 use Rattle.layout.specs.Records.{width_in}
 use Rattle.questions.specs.Questions.{shape, accepted, records, passed, asked, in_order, ports_right, sets_tidy, link_free, within_limits}

@@ -59,7 +59,8 @@ module _
 
       pub judged_stops : m.some ≡ true → {written : List ℕ}
           → written ≡ written_at 0
-          (reached_words (get_or counters 0 0) (port_of_edge f k) (drop d path) (take (width_in f) (lowest wide_words (wide_of m.set)))) area
+          (reached_words (get_or counters 0 0) (port_of_edge f k) (drop d path) (take (width_in f) (lowest wide_words (wide_of m.set))))
+          area
           → played_of 2 counters written ≡ judged (wide_in f) (width_in f) target (find_at f k path d s) (world_of counters area)
       unfolding judged
       judged_stops e h =

@@ -22,7 +22,8 @@ use Rattle.forwarding.proofs.Finds.{find_sound}
 use Rattle.forwarding.proofs.RunWays.{arrives_way, way_arrives}
 use Rattle.forwarding.proofs.Choices.{run_only_end}
 
-module _ (f : Fabric) (sound : Sound f) (limit target : ℕ) (asked : Set) (edge : f.is_edge target ≡ true) (wa : WellFormed f.words asked) where
+module _ (f : Fabric) (sound : Sound f) (limit target : ℕ) (asked : Set) (edge : f.is_edge target ≡ true)
+    (wa : WellFormed f.words asked) where
   -- a pair that arrives by the entries q is in just one find by those entries
   pub arrival_found : (p : ℕ) (q : List ℕ) (h : Header) → f.is_edge p ≡ true → Words f.words h
       → Arrives f limit target asked p q h → finds_by f.words p q h (finds (trace f limit target asked)) ≡ 1

@@ -19,7 +19,8 @@ use Rattle.headers.proofs.Carved.{carve_exact}
 use Rattle.forwarding.specs.Fabric.{Fabric, Sound, in_port_of, holds, beats, applied, undoes}
 use Rattle.forwarding.specs.Run.{unbeaten, takes}
 use Rattle.forwarding.specs.BackTrace.{back, beaters, survivors, back_traced}
-use Rattle.forwarding.proofs.Lists.{flat_map_member, total, total_flat_map, total_times, member_total, total_member, one_and, one_true, holders_total, none_of, none_of_those}
+use Rattle.forwarding.proofs.Lists.{flat_map_member, total, total_flat_map, total_times, member_total, total_member, one_and, one_true}
+use Rattle.forwarding.proofs.Lists.{holders_total, none_of, none_of_those}
 use Rattle.forwarding.proofs.OneHop.{undoes_exact, undoes_well_formed}
 use Rattle.forwarding.proofs.Parts.{part_well_formed}
 
@@ -84,7 +85,8 @@ module _ (f : Fabric) (sound : Sound f) where
     unfolding back bind
     back_well_formed s d = go (undoes f e t) refl d
       where
-        go : (o : Option Set) → undoes f e t ≡ o → bind o (λ s. intersection f.words s (f.entry e).matches) ≡ some s → WellFormed f.words s
+        go : (o : Option Set) → undoes f e t ≡ o → bind o (λ s. intersection f.words s (f.entry e).matches) ≡ some s
+            → WellFormed f.words s
         go none q d = let z : ◌≡◌ {A = ℕ} 0 1 = cc in absurd (omega arith)
         go (some u) q d = intersection_well_formed f.words u _ (undoes_well_formed f sound e t wt u q) (sound.match_well_formed e) s d
 
@@ -124,7 +126,8 @@ module _ (f : Fabric) (sound : Sound f) where
 
     module _ (number : e < f.entries) (h : Header) (w : Words f.words h) where
       -- just one part holds h if the entry takes it at its in-port and makes it into a header of t, and else none
-      pub back_traced_exact : holders f.words (back_traced f e t) h ≡ one (takes f e (in_port_of f e) h && contains f.words t (applied f e h))
+      pub back_traced_exact : holders f.words (back_traced f e t) h ≡ one
+          (takes f e (in_port_of f e) h && contains f.words t (applied f e h))
       unfolding takes
       back_traced_exact = back_traced_holders h w ∙ rw (lt-ltb e f.entries number, eq-eqb (in_port_of f e) (in_port_of f e) refl)
 

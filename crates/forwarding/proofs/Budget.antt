@@ -21,13 +21,15 @@ module _ (budget : ℕ) where
     where
       go : (b : Bool) → ltb u budget ≡ b → (suc u ≤ budget → ends_within budget (suc u) es ≡ leb (suc u + units es) budget)
           → (b && ends_within budget (suc u) es) ≡ leb (u + suc (units es)) budget
-      go true d ih = ih (ltb-true u budget d) ∙ ap (λ (m : ℕ). leb m budget) (let z : suc u + units es ≡ u + suc (units es) = omega arith in z)
+      go true d ih = ih (ltb-true u budget d) ∙ ap (λ (m : ℕ). leb m budget) (let z : suc u + units es ≡ u + suc (units es) =
+          omega arith in z)
       go false d ih = let k : budget ≤ u = ltb-false u budget d in sym (lt-leb (u + suc (units es)) budget (omega arith))
   ends_from (find d ∷ es) u l = ends_from es u l
 
   -- all of the events are gone through within the budget exactly if their units are no more
   pub ends_within_lem : (es : List Event) → ends_within budget 0 es ≡ leb (units es) budget
-  ends_within_lem es = ends_from es 0 (omega arith) ∙ ap (λ (m : ℕ). leb m budget) (let z : 0 + units es ≡ units es = omega arith in z)
+  ends_within_lem es = ends_from es 0 (omega arith) ∙ ap (λ (m : ℕ). leb m budget) (let z : 0 + units es ≡ units es = omega arith in
+      z)
 
 -- a verdict, if its units are within the budget
 abbrev pub if_within : ℕ → Verdict → Option Verdict
@@ -42,12 +44,14 @@ module _ (f : Fabric) (target budget : ℕ) where
       go (isolated m) e = omega (arith, (isolated_events f target es u m e).made)
       go (reached m p q h) e = omega (arith, (reached_events f target es u m p q h e).made)
 
-  within_from : (es : List Event) (u : ℕ) → u ≤ budget → verdict_within f target budget u es ≡ if_within budget (verdict f target u es)
+  within_from : (es : List Event) (u : ℕ) → u ≤ budget → verdict_within f target budget u es ≡ if_within budget
+      (verdict f target u es)
   unfolding units_in verdict verdict_within or_else
   within_from [] u l = rw (le-leb u budget l)
   within_from (unit ∷ es) u l = go (ltb u budget) refl (within_from es (suc u))
     where
-      go : (b : Bool) → ltb u budget ≡ b → (suc u ≤ budget → verdict_within f target budget (suc u) es ≡ if_within budget (verdict f target (suc u) es))
+      go : (b : Bool) → ltb u budget ≡ b
+          → (suc u ≤ budget → verdict_within f target budget (suc u) es ≡ if_within budget (verdict f target (suc u) es))
           → cond b (verdict_within f target budget (suc u) es) none ≡ if_within budget (verdict f target (suc u) es)
       go true d ih = ih (ltb-true u budget d)
       go false d ih =

@@ -52,12 +52,14 @@ module _ (f : Fabric) (sound : Sound f) (limit target : ℕ) (asked : Set) (wa :
       record { short = leb-true _ _ (and_fst _ _ c); goes_there = and_snd (leb (length d.path) limit) _ c }
 
   -- and a packet that can go a way is in a find with that path
-  pub find_complete : (p : ℕ) (q : List ℕ) (h : Header) → f.is_edge p ≡ true → Words f.words h → CanGo f limit target asked p q h
+  pub find_complete : (p : ℕ) (q : List ℕ) (h : Header) → f.is_edge p ≡ true → Words f.words h
+      → CanGo f limit target asked p q h
       → Found f.words (finds (trace f limit target asked)) p q h
   find_complete p q h edge w c =
       let sum = finds_by_total f.words p q h (finds (trace f limit target asked)) in
       let is = finds_by_way f sound p h edge w limit target asked wa q in
-      let yes : one (leb (length q) limit && goes f p h (reverse q) target asked) ≡ 1 = ap one (ap₂ ◌&&◌ (le-leb _ _ c.short) c.goes_there) in
+      let yes : one (leb (length q) limit && goes f p h (reverse q) target asked) ≡ 1 =
+      ap one (ap₂ ◌&&◌ (le-leb _ _ c.short) c.goes_there) in
       let m = total_member (λ d. one (holds_by f.words p q h d)) (finds (trace f limit target asked)) (omega arith) in
       let t = one_true _ m.2 in
       let s = and_snd (eqb p m.0.port) _ t in

@@ -71,7 +71,8 @@ module _ (f : Fabric) (sound : Sound f) (target : ℕ) (d : Find) (wd : WellForm
           })
 
   -- where none is reported the find holds no foreign packet
-  pub foreign_none : foreign_packet f target d ≡ none → (h : Header) → contains f.words d.set h ≡ true → foreign f target d.port h ≡ false
+  pub foreign_none : foreign_packet f target d ≡ none → (h : Header) → contains f.words d.set h ≡ true
+      → foreign f target d.port h ≡ false
   unfolding foreign_packet foreign holders is_unadmitted
   foreign_none e h i = by_group (eqb (f.group d.port) (f.group target)) e
     where

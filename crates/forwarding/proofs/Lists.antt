@@ -62,7 +62,8 @@ module _ {A B : Type 0} where
   pub flat_map_append : (g : A → List B) (a b : List A) → flat_map g (a ++ b) ≡ flat_map g a ++ flat_map g b
   unfolding flat_map
   flat_map_append g [] b = refl
-  flat_map_append g (x ∷ a) b = ap (λ (l : List B). g x ++ l) (flat_map_append g a b) ∙ sym (append_assoc (g x) (flat_map g a) (flat_map g b))
+  flat_map_append g (x ∷ a) b = ap (λ (l : List B). g x ++ l) (flat_map_append g a b)
+      ∙ sym (append_assoc (g x) (flat_map g a) (flat_map g b))
 
   pub flat_map_member : (g : A → List B) {b : B} (l : List A) → Memᴰ b (flat_map g l) → (a : A) × Memᴰ a l × Memᴰ b (g a)
   unfolding flat_map
@@ -75,7 +76,8 @@ module _ {A B : Type 0} where
       go (inr x) ih = let r = ih x in (r.0, Memᴰ.tail r.1, r.2)
 
 module _ {A B C : Type 0} where
-  pub flat_map_flat_map : (g : B → List C) (k : A → List B) (l : List A) → flat_map g (flat_map k l) ≡ flat_map (λ a. flat_map g (k a)) l
+  pub flat_map_flat_map : (g : B → List C) (k : A → List B) (l : List A)
+      → flat_map g (flat_map k l) ≡ flat_map (λ a. flat_map g (k a)) l
   unfolding flat_map
   flat_map_flat_map g k [] = refl
   flat_map_flat_map g k (a ∷ l) =
@@ -99,7 +101,8 @@ module _ {A : Type 0} where
   total_append c (x ∷ a) b = let e = total_append c a b in omega arith
 
   -- v times over
-  pub total_times : (c d : A → ℕ) (v : ℕ) (l : List A) → ((a : A) → Memᴰ a l → c a ≡ d a * v) → total c l ≡ total d l * v
+  pub total_times : (c d : A → ℕ) (v : ℕ) (l : List A) → ((a : A) → Memᴰ a l → c a ≡ d a * v)
+      → total c l ≡ total d l * v
   unfolding total
   total_times c d v [] e = omega arith
   total_times c d v (a ∷ l) e =
@@ -196,16 +199,19 @@ every_first zero g = sym (and-true (g 0))
 every_first (suc k) g =
     ap (λ (b : Bool). b && g (suc k)) (every_first k g) ∙ and_assoc (g 0) (every k (λ i. g (suc i))) (g (suc k))
 
-pub none_of_those : (s t : ℕ → Bool) (k j : ℕ) → none_of t (those s (positions k j)) ≡ every k (λ i. not (s (j + i) && t (j + i)))
+pub none_of_those : (s t : ℕ → Bool) (k j : ℕ) → none_of t (those s (positions k j)) ≡ every k
+    (λ i. not (s (j + i) && t (j + i)))
 unfolding none_of those positions
 none_of_those s t zero j = refl
 none_of_those s t (suc k) j =
     go (s j)
     ∙ ap₂ (λ (i : ℕ) (b : Bool). not (s i && t i) && b) (let e : j ≡ j + 0 = omega arith in e)
-    (none_of_those s t k (suc j) ∙ every_same k _ _ (λ i l. ap (λ (m : ℕ). not (s m && t m)) (let e : suc j + i ≡ j + suc i = omega arith in e)))
+    (none_of_those s t k (suc j)
+    ∙ every_same k _ _ (λ i l. ap (λ (m : ℕ). not (s m && t m)) (let e : suc j + i ≡ j + suc i = omega arith in e)))
     ∙ sym (every_first k (λ i. not (s (j + i) && t (j + i))))
   where
-    go : (b : Bool) → none_of t (keep_if b j (those s (positions k (suc j)))) ≡ (not (b && t j) && none_of t (those s (positions k (suc j))))
+    go : (b : Bool) → none_of t (keep_if b j (those s (positions k (suc j)))) ≡
+        (not (b && t j) && none_of t (those s (positions k (suc j))))
     go true = refl
     go false = refl
 

@@ -8,7 +8,8 @@ use Rattle.headers.specs.Sets.{Set, WellFormed}
 use Rattle.headers.specs.Carving.{carve, Each}
 use Rattle.headers.proofs.Parts.{carve_well_formed}
 
-pub part_well_formed : (n : ℕ) (p b : Set) → WellFormed n p → WellFormed n b → (s : Set) → Memᴰ s (carve n p b) → WellFormed n s
+pub part_well_formed : (n : ℕ) (p b : Set) → WellFormed n p → WellFormed n b → (s : Set) → Memᴰ s (carve n p b)
+    → WellFormed n s
 unfolding Each
 part_well_formed n p b wp wb s = go (carve n p b) (carve_well_formed n p b wp wb)
   where

@@ -45,7 +45,8 @@ module _ (f : Fabric) (sound : Sound f) (p : ℕ) (h : Header) where
   stands_can_be [] x g d = subst (CanBe f p h) (let e : travelling p h [] ≡ travelling x g [] = cc in e) started
   stands_can_be (e ∷ r) x g d = go (stands f p h r) refl d (stands_can_be r)
     where
-      on : (y : ℕ) (k : Header) (b : Bool) (o z : ℕ) → takes f e y k ≡ b → out_port_of f e ≡ o → f.link_to (out_port_of f e) ≡ z
+      on : (y : ℕ) (k : Header) (b : Bool) (o z : ℕ) → takes f e y k ≡ b → out_port_of f e ≡ o
+          → f.link_to (out_port_of f e) ≡ z
           → onward f (cond b (at (out_port_of f e) (applied f e k)) nowhere) ≡ at x g → CanBe f p h (travelling y k r)
           → CanBe f p h (travelling x g (e ∷ r))
       on y k false o z te a b d c = let q : ◌≡◌ {A = ℕ} 0 1 = cc in absurd (omega arith)
@@ -68,7 +69,8 @@ module _ (f : Fabric) (sound : Sound f) (p : ℕ) (h : Header) where
   sent_can_be [] o g i d = let z : ◌≡◌ {A = ℕ} 0 1 = cc in absurd (omega arith)
   sent_can_be (e ∷ r) o g i d = go (stands f p h r) refl d
     where
-      out : (v : ℕ) → f.is_edge v ≡ true → (y : ℕ) (k : Header) → sent_out f y v (f.link_to v) k (e ∷ r) ≡ left v k (e ∷ r)
+      out : (v : ℕ) → f.is_edge v ≡ true → (y : ℕ) (k : Header) → sent_out f y v (f.link_to v) k (e ∷ r) ≡ left v k
+          (e ∷ r)
       out zero i y k = absurd (true≢false (sym i ∙ sound.zero_no_edge))
       out (suc v) i y k = rw (sound.edge_begins_none (suc v) i)
 

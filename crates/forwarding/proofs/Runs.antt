@@ -72,6 +72,7 @@ module _ (f : Fabric) where
   settled p h k zero l e = ap (λ (m : ℕ). run f m p h) (let z : 0 ≡ k = omega arith in z)
   settled p h k (suc j) l e = go (ℕ_discrete k (suc j)) (settled p h k j)
     where
-      go : Dec (k ≡ suc j) → (k ≤ j → hop f (run f k p h) ≡ run f k p h → run f j p h ≡ run f k p h) → hop f (run f j p h) ≡ run f k p h
+      go : Dec (k ≡ suc j) → (k ≤ j → hop f (run f k p h) ≡ run f k p h → run f j p h ≡ run f k p h)
+          → hop f (run f j p h) ≡ run f k p h
       go (yes d) ih = ap (λ (m : ℕ). run f m p h) (sym d)
       go (no d) ih = ap (hop f) (ih (omega arith) e) ∙ e

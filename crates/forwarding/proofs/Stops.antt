@@ -83,7 +83,8 @@ module _ (f : Fabric) (target : ℕ) where
     packet = r.packet;
   }
 
-  pub reached_events : (es : List Event) (u v p : ℕ) (q : List ℕ) (h : Header) → verdict f target u es ≡ reached v p q h → Reached u es v p q h
+  pub reached_events : (es : List Event) (u v p : ℕ) (q : List ℕ) (h : Header) → verdict f target u es ≡ reached v p q h
+      → Reached u es v p q h
   unfolding verdict units finds
   reached_events [] u v p q h e = let z : ◌≡◌ {A = ℕ} 0 1 = cc in absurd (omega arith)
   reached_events (unit ∷ es) u v p q h e =
@@ -119,5 +120,6 @@ module _ (f : Fabric) (target : ℕ) where
       go true (some s) e = lowest_long s cc
       go false o e = lowest_long d.set cc
 
-  pub reached_long : (es : List Event) (v p : ℕ) (q : List ℕ) (h : Header) → verdict f target 0 es ≡ reached v p q h → length h ≡ f.words
+  pub reached_long : (es : List Event) (v p : ℕ) (q : List ℕ) (h : Header) → verdict f target 0 es ≡ reached v p q h
+      → length h ≡ f.words
   reached_long es v p q h e = let r = reached_events es 0 v p q h e in packet_long r.at h r.packet

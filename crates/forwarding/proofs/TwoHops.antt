@@ -73,5 +73,6 @@ sound = record {
 every_header_arrives : (h : Header) → Words 4 h → Arrives two_hops 2 2 (all_wild 4) 1 (0 ∷ 1 ∷ []) h
 unfolding finds
 every_header_arrives h w =
-    find_arrives two_hops sound 2 2 (all_wild 4) refl (all_wild_well_formed 4) (record { port = 1; path = 0 ∷ 1 ∷ []; set = all_wild 4 })
+    find_arrives two_hops sound 2 2 (all_wild 4) refl (all_wild_well_formed 4)
+    (record { port = 1; path = 0 ∷ 1 ∷ []; set = all_wild 4 })
     (rw two_hops_back (Memᴰ.head refl)) h w (all_wild_contains 4 h)

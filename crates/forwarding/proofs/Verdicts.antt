@@ -29,7 +29,8 @@ pub record WayIn (f : Fabric) (limit target : ℕ) (asked : Set) (p : ℕ) (q : 
 
 module _ (f : Fabric) (sound : Sound f) (limit target : ℕ) (asked : Set) (wa : WellFormed f.words asked) where
   -- 'reached' names a foreign packet that can go to the target by the entries named
-  pub reached_way : (u p : ℕ) (q : List ℕ) (h : Header) → verdict_on f target limit asked ≡ reached u p q h → WayIn f limit target asked p q h
+  pub reached_way : (u p : ℕ) (q : List ℕ) (h : Header) → verdict_on f target limit asked ≡ reached u p q h
+      → WayIn f limit target asked p q h
   unfolding finds
   reached_way u p q h e =
       let r = reached_events f target (trace f limit target asked) 0 u p q h e in
@@ -47,7 +48,8 @@ module _ (f : Fabric) (sound : Sound f) (limit target : ℕ) (asked : Set) (wa :
 
   -- and after 'isolated' no foreign packet can go to the target at all
   pub isolated_ways : (u : ℕ) → verdict_on f target limit asked ≡ isolated u
-      → (p : ℕ) (q : List ℕ) (h : Header) → f.is_edge p ≡ true → Words f.words h → CanGo f limit target asked p q h → foreign f target p h ≡ false
+      → (p : ℕ) (q : List ℕ) (h : Header) → f.is_edge p ≡ true → Words f.words h → CanGo f limit target asked p q h
+      → foreign f target p h ≡ false
   isolated_ways u e p q h pe w g =
       let d = find_complete f sound limit target asked wa p q h pe w g in
       let s = edge_set f sound limit target asked wa d.in_find d.member in
@@ -56,9 +58,11 @@ module _ (f : Fabric) (sound : Sound f) (limit target : ℕ) (asked : Set) (wa :
 
 -- ---- by what a packet can become
 
-module _ (f : Fabric) (sound : Sound f) (limit target : ℕ) (asked : Set) (edge : f.is_edge target ≡ true) (wa : WellFormed f.words asked) where
+module _ (f : Fabric) (sound : Sound f) (limit target : ℕ) (asked : Set) (edge : f.is_edge target ≡ true)
+    (wa : WellFormed f.words asked) where
   -- the packet that 'reached' names is foreign and arrives, by the entries named
-  pub reached_leak : (u p : ℕ) (q : List ℕ) (h : Header) → verdict_on f target limit asked ≡ reached u p q h → Leak f limit target asked p q h
+  pub reached_leak : (u p : ℕ) (q : List ℕ) (h : Header) → verdict_on f target limit asked ≡ reached u p q h
+      → Leak f limit target asked p q h
   reached_leak u p q h e =
       let g = reached_way f sound limit target asked wa u p q h e in
       record {

@@ -60,12 +60,14 @@ module _ (f : Fabric) (sound : Sound f) (p : ℕ) (h : Header) (edge : f.is_edge
 
   -- the finds of the stop with k hops left, latest entries first
   Exactly : ℕ → Type 0
-  Exactly k = (r : List ℕ) (o : ℕ) (t : Set) → WellFormed f.words t → found r (ways_back f k o t) ≡ one (leb (length r) k && goes f p h r o t)
+  Exactly k = (r : List ℕ) (o : ℕ) (t : Set) → WellFormed f.words t
+      → found r (ways_back f k o t) ≡ one (leb (length r) k && goes f p h r o t)
 
   -- ---- a part at an in-port
 
   -- at an edge port a packet stands only where it started
-  at_edge : (x : ℕ) (s : Set) → f.is_edge x ≡ true → (r : List ℕ) → is_at f (stands f p h r) x s ≡ (eqb p x && (same [] r && contains f.words s h))
+  at_edge : (x : ℕ) (s : Set) → f.is_edge x ≡ true → (r : List ℕ)
+      → is_at f (stands f p h r) x s ≡ (eqb p x && (same [] r && contains f.words s h))
   unfolding same stands is_at
   at_edge x s i [] = refl
   at_edge x s i (e ∷ r) = across_link f sound (departs f e (stands f p h r)) x s ∙ rw (sound.edge_ends_none x i, and-false)
@@ -74,7 +76,8 @@ module _ (f : Fabric) (sound : Sound f) (p : ℕ) (h : Header) (edge : f.is_edge
   after_link : (x : ℕ) (s : Set) → f.is_edge x ≡ false → (r : List ℕ)
       → is_at f (stands f p h r) x s ≡ (not (eqb (f.link_from x) 0) && goes f p h r (f.link_from x) s)
   unfolding stands sent is_at
-  after_link x s i [] = rw (ne_eqb p x (λ d. true≢false (sym edge ∙ ap f.is_edge d ∙ i))) (sym (and-false (not (eqb (f.link_from x) 0))))
+  after_link x s i [] = rw (ne_eqb p x (λ d. true≢false (sym edge ∙ ap f.is_edge d ∙ i)))
+      (sym (and-false (not (eqb (f.link_from x) 0))))
   after_link x s i (e ∷ r) = across_link f sound (departs f e (stands f p h r)) x s
 
   -- the finds of a part s at in-port x: the packets that come to stand there with a header in s
@@ -118,25 +121,35 @@ module _ (f : Fabric) (sound : Sound f) (p : ℕ) (h : Header) (edge : f.is_edge
       part_finds s = found r (found_at f (ways_back f k) x s)
 
       reorder : (a b c d i j : Bool) → (a && (b && ((c && d) && (i && j)))) ≡ (i && ((a && (j && c)) && (b && d)))
-      reorder true b c d i j = same_true _ _ (always (λ b c d i j. (b && ((c && d) && (i && j))) == (i && ((j && c) && (b && d)))) tt b c d i j)
+      reorder true b c d i j =
+          same_true _ _ (always (λ b c d i j. (b && ((c && d) && (i && j))) == (i && ((j && c) && (b && d)))) tt b c d i j)
       reorder false b c d i j = sym (and-false i)
 
       -- by where the packet stands after r
       go : (a : Place) → FitsAt f a → ((s : Set) → Memᴰ s (back_traced f e t) → part_finds s ≡ one (short && is_at f a x s))
-          → one (ltb e f.entries) * (one (eqb (out_port_of f e) o) * total part_finds (back_traced f e t)) ≡ one (short && is_at f (departs f e a) o t)
+          → one (ltb e f.entries) * (one (eqb (out_port_of f e) o) * total part_finds (back_traced f e t)) ≡ one
+          (short && is_at f (departs f e a) o t)
       go nowhere v each =
-          rw (total_times part_finds (λ s. 0) 0 (back_traced f e t) (λ s m. each s m ∙ rw and-false), mul-zero, mul-zero, mul-zero, and-false)
+          rw (
+            total_times part_finds (λ s. 0) 0 (back_traced f e t) (λ s m. each s m ∙ rw and-false),
+            mul-zero,
+            mul-zero,
+            mul-zero,
+            and-false,
+          )
       go (at y g) v each =
           ap (λ (m : ℕ). one (ltb e f.entries) * (one (eqb (out_port_of f e) o) * m)) parts_that_hold
           ∙ rw (← one_and, ← one_and, ← one_and, departs_at)
-          (ap one (reorder (ltb e f.entries) (eqb (out_port_of f e) o) (holds f e g && unbeaten f e g) (contains f.words t (applied f e g)) short (eqb y x)))
+          (ap one (reorder (ltb e f.entries) (eqb (out_port_of f e) o) (holds f e g && unbeaten f e g) (contains f.words t (applied f e g))
+          short (eqb y x)))
         where
           parts_that_hold : total part_finds (back_traced f e t)
               ≡ one ((holds f e g && unbeaten f e g) && contains f.words t (applied f e g)) * one (short && eqb y x)
           parts_that_hold =
               total_times part_finds (λ s. one (contains f.words s g)) (one (short && eqb y x)) (back_traced f e t)
               (λ s m. each s m ∙ factor short (eqb y x) (contains f.words s g))
-              ∙ ap (λ (m : ℕ). m * one (short && eqb y x)) (sym (holders_total f.words (back_traced f e t) g) ∙ back_traced_holders f sound e t wt g v)
+              ∙ ap (λ (m : ℕ). m * one (short && eqb y x)) (sym (holders_total f.words (back_traced f e t) g)
+              ∙ back_traced_holders f sound e t wt g v)
 
   -- the latest entry of a find's path is the one through which it was found
   later_exact : (e c : ℕ) (r : List ℕ) (l : List Find) → found (e ∷ r) (map (later f c) l) ≡ found r l * one (eqb c e)
@@ -156,7 +169,8 @@ module _ (f : Fabric) (sound : Sound f) (p : ℕ) (h : Header) (edge : f.is_edge
   exact zero (e ∷ r) o t wt = rw (leb-suc-zero (length r))
   exact (suc k) [] o t wt =
       total_flat_map _ _ (entries_where f (λ c. eqb (out_port_of f c) o))
-      ∙ total_zero _ (entries_where f (λ c. eqb (out_port_of f c) o)) (λ c. total_map _ (later f c) (before c) ∙ total_zero _ (before c) (λ d. rw and-false))
+      ∙ total_zero _ (entries_where f (λ c. eqb (out_port_of f c) o)) (λ c. total_map _ (later f c) (before c)
+      ∙ total_zero _ (before c) (λ d. rw and-false))
       ∙ rw (leb-zero (suc k))
     where
       before : ℕ → List Find

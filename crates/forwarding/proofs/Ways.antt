@@ -72,7 +72,8 @@ pub departs_at : (f : Fabric) (e x : ℕ) (h : Header) (o : ℕ) (t : Set)
 unfolding departs is_at
 departs_at f e x h o t = go (takes f e x h)
   where
-    go : (b : Bool) → is_at f (cond b (at (out_port_of f e) (applied f e h)) nowhere) o t ≡ (b && (eqb (out_port_of f e) o && contains f.words t (applied f e h)))
+    go : (b : Bool) → is_at f (cond b (at (out_port_of f e) (applied f e h)) nowhere) o t ≡
+        (b && (eqb (out_port_of f e) o && contains f.words t (applied f e h)))
     go true = refl
     go false = refl
 
@@ -148,7 +149,8 @@ module _ (f : Fabric) (sound : Sound f) where
   stands_fits p h w (e ∷ r) = onward_fits (departs f e (stands f p h r)) (departs_fits e (stands f p h r) (stands_fits p h w r))
 
   -- a packet stands at x after a link just if it was sent out at the from-port of the link that ends at x
-  pub across_link : (s : Place) (x : ℕ) (t : Set) → is_at f (onward f s) x t ≡ (not (eqb (f.link_from x) 0) && is_at f s (f.link_from x) t)
+  pub across_link : (s : Place) (x : ℕ) (t : Set)
+      → is_at f (onward f s) x t ≡ (not (eqb (f.link_from x) 0) && is_at f s (f.link_from x) t)
   unfolding onward is_at
   across_link nowhere x t = sym (and-false (not (eqb (f.link_from x) 0)))
   across_link (at y h) x t = go (f.link_to y) (f.link_from x) refl refl

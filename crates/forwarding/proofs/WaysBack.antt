@@ -43,7 +43,8 @@ module _ (f : Fabric) where
       parts = carve f.words p (f.entry b).matches
 
   finds_taken_up : (next : ℕ → Set → List ℕ → List Event) (t : Set) (path : List ℕ) (e : ℕ)
-      → finds (taken_up f next t path e) ≡ flat_map (λ s. finds (at_in_port f next (in_port_of f e) (e ∷ path) s)) (back_traced f e t)
+      → finds (taken_up f next t path e) ≡ flat_map (λ s. finds (at_in_port f next (in_port_of f e) (e ∷ path) s))
+      (back_traced f e t)
   unfolding taken_up back_traced finds Option-elim flat_map
   finds_taken_up next t path e = go (back f e t)
     where
@@ -81,11 +82,13 @@ onto path d = record { port = d.port; path = reverse_aux d.path path; set = d.se
 
 module _ (f : Fabric) where
   finds_at : (k : ℕ) → ((o : ℕ) (t : Set) (path : List ℕ) → finds (stop f k o t path) ≡ map (onto path) (ways_back f k o t))
-      → (x : ℕ) (path : List ℕ) (s : Set) → finds (at_in_port f (stop f k) x path s) ≡ map (onto path) (found_at f (ways_back f k) x s)
+      → (x : ℕ) (path : List ℕ) (s : Set) → finds (at_in_port f (stop f k) x path s) ≡ map (onto path)
+      (found_at f (ways_back f k) x s)
   unfolding at_in_port found_at finds
   finds_at k ih x path s = go (f.is_edge x) (f.link_from x)
     where
-      go : (b : Bool) (y : ℕ) → finds (cond b (find (record { port = x; path = path; set = s }) ∷ []) (from_port f (stop f k) y path s))
+      go : (b : Bool) (y : ℕ)
+          → finds (cond b (find (record { port = x; path = path; set = s }) ∷ []) (from_port f (stop f k) y path s))
           ≡ map (onto path) (cond b (record { port = x; path = []; set = s } ∷ []) (over_link f (ways_back f k) y s))
       go true y = refl
       go false zero = refl
@@ -103,7 +106,8 @@ module _ (f : Fabric) where
       es = entries_where f (λ e. eqb (out_port_of f e) o)
 
       one_entry_lem : ((o : ℕ) (t : Set) (path : List ℕ) → finds (stop f k o t path) ≡ map (onto path) (ways_back f k o t))
-          → (e : ℕ) → finds (taken_up f (stop f k) t path e) ≡ map (onto path) (map (later f e) (found_before f (ways_back f k) t e))
+          → (e : ℕ) → finds (taken_up f (stop f k) t path e) ≡ map (onto path)
+          (map (later f e) (found_before f (ways_back f k) t e))
       one_entry_lem ih e =
           finds_taken_up f (stop f k) t path e
           ∙ flat_map_same _ _ (finds_at k ih (in_port_of f e) (e ∷ path)) (back_traced f e t)

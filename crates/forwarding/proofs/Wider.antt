@@ -117,7 +117,8 @@ module _ (k : ℕ) (f : Fabric) (sound : Sound f) where
   abbrev SameStop : (ℕ → Set → List ℕ → List Event) → (ℕ → Set → List ℕ → List Event) → Type 0
   SameStop next wide = (y : ℕ) (path : List ℕ) → Same (λ p. next y p path) (λ p. wide y p path)
 
-  pub carved_wider : (next wide : Set → List Event) → Same next wide → (bs : List ℕ) → Same (carved f next bs) (carved (wider k f) wide bs)
+  pub carved_wider : (next wide : Set → List Event) → Same next wide → (bs : List ℕ)
+      → Same (carved f next bs) (carved (wider k f) wide bs)
   unfolding carved flat_map Each
   carved_wider next wide same [] p wp = same p wp
   carved_wider next wide same (b ∷ bs) p wp =

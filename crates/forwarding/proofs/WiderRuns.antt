@@ -77,7 +77,8 @@ module _ (k : ℕ) (f : Fabric) (sound : Sound f) where
   hop_wider (tied x h r) l = refl
   hop_wider (travelling x h r) l = ap (forwarded (wider k f) x (longer k h) r) (takers_wider h l x) ∙ go (takers f x h)
     where
-      out : (o z e : ℕ) (g : Header) → sent_out (wider k f) x o z (longer k g) (e ∷ r) ≡ wider_packet k (sent_out f x o z g (e ∷ r))
+      out : (o z e : ℕ) (g : Header) → sent_out (wider k f) x o z (longer k g) (e ∷ r) ≡ wider_packet k
+          (sent_out f x o z g (e ∷ r))
       out zero z e g = refl
       out (suc o) zero e g = refl
       out (suc o) (suc z) e g = refl
@@ -85,7 +86,8 @@ module _ (k : ℕ) (f : Fabric) (sound : Sound f) where
       go : (t : List ℕ) → forwarded (wider k f) x (longer k h) r t ≡ wider_packet k (forwarded f x h r t)
       go [] = refl
       go (e ∷ []) =
-          ap (λ (g : Header). sent_out (wider k f) x (out_port_of f e) (f.link_to (out_port_of f e)) g (e ∷ r)) (applied_wider f sound e k h l)
+          ap (λ (g : Header). sent_out (wider k f) x (out_port_of f e) (f.link_to (out_port_of f e)) g (e ∷ r))
+          (applied_wider f sound e k h l)
           ∙ out (out_port_of f e) (f.link_to (out_port_of f e)) e (applied f e h)
       go (e ∷ d ∷ t) = refl
 

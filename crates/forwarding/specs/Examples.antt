@@ -137,7 +137,8 @@ E5 = refl
 abbrev pub two_hops : Fabric
 two_hops = linked 3 4 (entry_of 10 1 3 (all_wild 4) (set_tp_dst 5) ∷ entry_of 10 4 2 (tp_dst 5) (no_action 4) ∷ [])
 
-pub two_hops_back : trace two_hops 2 2 (all_wild 4) ≡ unit ∷ unit ∷ find (record { port = 1; path = 0 ∷ 1 ∷ []; set = all_wild 4 }) ∷ []
+pub two_hops_back : trace two_hops 2 2 (all_wild 4) ≡ unit ∷ unit ∷ find
+    (record { port = 1; path = 0 ∷ 1 ∷ []; set = all_wild 4 }) ∷ []
 unfolding computing
 two_hops_back = refl
 
@@ -166,7 +167,8 @@ swapping = linked 3 4
     ∷ entry_of 10 4 2 (from_to 9 7) (no_action 4)
     ∷ [])
 
-swap_back : trace swapping 2 2 (all_wild 4) ≡ unit ∷ unit ∷ find (record { port = 1; path = 0 ∷ 1 ∷ []; set = from_to 7 9 }) ∷ []
+swap_back : trace swapping 2 2 (all_wild 4) ≡ unit ∷ unit ∷ find (record { port = 1; path = 0 ∷ 1 ∷ []; set = from_to 7 9 }) ∷
+    []
 unfolding computing
 swap_back = refl
 
@@ -319,7 +321,8 @@ unfolding computing
 lost_by_choice = refl
 
 -- V8: with another target the list is of what arrives there
-arriving_by_choice : list_trace losing_by_choice 2 2 (tp_dst 80) ≡ unit ∷ find (record { port = 1; path = 0 ∷ []; set = tp_dst 80 }) ∷ []
+arriving_by_choice : list_trace losing_by_choice 2 2 (tp_dst 80) ≡ unit ∷ find (record { port = 1; path = 0 ∷ []; set = tp_dst 80 })
+    ∷ []
 unfolding computing
 arriving_by_choice = refl
 

@@ -34,7 +34,8 @@ beyond from stay (suc (suc w)) l = stay w
 
 module _ (n k : ℕ) (two : 2 ≤ n) where
   -- a list whose last k words stay
-  stays : (f g : ℕ → ℕ) (b : List ℕ) → length b ≡ k → ((w : ℕ) → w < n → f w ≡ g w) → ((w : ℕ) → w < k → f (n + w) ≡ word b w)
+  stays : (f g : ℕ → ℕ) (b : List ℕ) → length b ≡ k → ((w : ℕ) → w < n → f w ≡ g w)
+      → ((w : ℕ) → w < k → f (n + w) ≡ word b w)
       → words (n + k) f ≡ words n g ++ b
   stays f g b lb p q = words_beside n k f g (word b) p q ∙ ap (λ (l : List ℕ). words n g ++ l) (words_whole k b lb)
 

@@ -31,7 +31,8 @@ pub word_right : (n : ℕ) (a b : List ℕ) → length a ≡ n → (w : ℕ) →
 word_right n a b e w = ap (λ (i : ℕ). word (a ++ b) (i + w)) (sym e) ∙ get_or-append-add a b w 0
 
 -- a list of n + k words, by its first n and its last k
-pub words_beside : (n k : ℕ) (f g h : ℕ → ℕ) → ((w : ℕ) → w < n → f w ≡ g w) → ((w : ℕ) → w < k → f (n + w) ≡ h w)
+pub words_beside : (n k : ℕ) (f g h : ℕ → ℕ) → ((w : ℕ) → w < n → f w ≡ g w)
+    → ((w : ℕ) → w < k → f (n + w) ≡ h w)
     → words (n + k) f ≡ words n g ++ words k h
 words_beside zero k f g h p q = ap (λ (m : ℕ). words m f) (zero-add k) ∙ words_same k f h (λ w l. ap f (sym (zero-add w)) ∙ q w l)
 words_beside (suc n) k f g h p q =
@@ -40,7 +41,8 @@ words_beside (suc n) k f g h p q =
     (words_beside n k (λ w. f (suc w)) (λ w. g (suc w)) h (λ w l. p (suc w) (omega arith)) (λ w l. ap f (sym (suc-add n w)) ∙ q w l))
 
 -- a test on n + k words, by its first n and its last k
-pub every_beside : (n k : ℕ) (f g h : ℕ → Bool) → ((w : ℕ) → w < n → f w ≡ g w) → ((w : ℕ) → w < k → f (n + w) ≡ h w)
+pub every_beside : (n k : ℕ) (f g h : ℕ → Bool) → ((w : ℕ) → w < n → f w ≡ g w)
+    → ((w : ℕ) → w < k → f (n + w) ≡ h w)
     → every (n + k) f ≡ (every n g && every k h)
 every_beside n zero f g h p q = ap (λ (m : ℕ). every m f) (add-zero n) ∙ every_same n f g p ∙ sym (and-true (every n g))
 every_beside n (suc k) f g h p q =
@@ -130,7 +132,8 @@ module _ (n k : ℕ) (p q : Set) (lp : Long n p) where
   pub turned_beside : turned (n + k) (beside p q) ≡ beside (turned n p) (turned k q)
   turned_beside = λ i. record { care = p.care ++ q.care; value = opposite_beside n k p.value q.value lp.value i }
 
-  pub widened_beside : (m o : List ℕ) → length m ≡ n → widened (n + k) (m ++ o) (beside p q) ≡ beside (widened n m p) (widened k o q)
+  pub widened_beside : (m o : List ℕ) → length m ≡ n → widened (n + k) (m ++ o) (beside p q) ≡ beside (widened n m p)
+      (widened k o q)
   widened_beside m o lm = λ i. record {
     care = outside_beside n k m o lm p.care q.care lp.care i;
     value = outside_beside n k m o lm p.value q.value lp.value i;

@@ -2,7 +2,8 @@
 use mathlib.Core.Path.{◌≡◌, refl, sym, ap, ◌∙◌}
 use mathlib.Core.Bool.{true, false, not, ◌&&◌, ◌||◌, true≢false, false≢true}
 use Prim.Native.Nat.{ℕ, zero, suc, ◌+◌, ◌-◌, ◌*◌, ◌/◌, ◌%◌, ◌^◌, ◌≤◌, ◌<◌}
-use native.Mathlib.Nat.{pow-suc, mod-lt, div-div-eq-div-mul, mul_comm, div-one, mul-div_cancel, mul-mod_left, div-eq_of_lt, lt_of_lt_of_le, div-lt_iff_lt-mul, le-div_iff_mul-le}
+use native.Mathlib.Nat.{pow-suc, mod-lt, div-div-eq-div-mul, mul_comm, div-one, mul-div_cancel, mul-mod_left, div-eq_of_lt, lt_of_lt_of_le}
+use native.Mathlib.Nat.{div-lt_iff_lt-mul, le-div_iff_mul-le}
 use native.Mathlib.Omega.{arith}
 use lib.Arith.{bin_ind}
 use lib.Bits.{bit_and, bit_or, and_shr, or_shr, and_mod, or_mod}
@@ -118,7 +119,8 @@ pub bit_top : (a j : ℕ) → 2 ^ j ≤ a → a < 2 ^ suc j → bit a j ≡ true
 unfolding bit
 bit_top a j l h =
     let low : 1 ≤ a / 2 ^ j = (le-div_iff_mul-le (pow_pos j)).1 (let e : 1 * 2 ^ j ≤ a = omega arith in e) in
-    let high : a / 2 ^ j < 2 = (div-lt_iff_lt-mul (pow_pos j)).1 (let p : 2 ^ suc j ≡ 2 ^ j * 2 = pow-suc 2 j in let e : a < 2 * 2 ^ j = omega arith in e) in
+    let high : a / 2 ^ j < 2 = (div-lt_iff_lt-mul (pow_pos j)).1 (let p : 2 ^ suc j ≡ 2 ^ j * 2 = pow-suc 2 j in let e : a < 2 * 2 ^ j =
+    omega arith in e) in
     ap (λ (x : ℕ). eqb (x % 2) 1) (let e : a / 2 ^ j ≡ 1 = omega arith in e)
 
 -- the complement at a width

@@ -73,7 +73,8 @@ is_true true t = refl
 is_true false t = absurd t
 
 -- an identity in five Booleans, by its 32 cases
-pub always : (f : Bool → Bool → Bool → Bool → Bool → Bool) → T (both λ a. both λ b. both λ c. both λ d. both λ e. f a b c d e)
+pub always : (f : Bool → Bool → Bool → Bool → Bool → Bool)
+    → T (both λ a. both λ b. both λ c. both λ d. both λ e. f a b c d e)
     → (a b c d e : Bool) → f a b c d e ≡ true
 always f h a b c d e =
     is_true (f a b c d e)

@@ -24,7 +24,8 @@ module _ (n : ℕ) (b : Set) (cb : Words n b.care) (vb : Words n b.value) where
   Covered p i = (j : ℕ) → j < i → bit_at b.care j ≡ true → bit_at p.care j ≡ true
 
   -- where p cares for all that b cares for, and they overlap, what is in p is in b
-  covered_member : (p : Set) → Words n p.care → overlaps n p b ≡ true → Covered p (n * 32) → (h : Header) → contains n p h ≡ true → contains n b h ≡ true
+  covered_member : (p : Set) → Words n p.care → overlaps n p b ≡ true → Covered p (n * 32) → (h : Header)
+      → contains n p h ≡ true → contains n b h ≡ true
   unfolding Covered
   covered_member p cp o cover h e = contains_bits n b cb h ∙ every_of (n * 32) _ λ i l.
       implied _ _ (implied _ _ (implied _ _
@@ -68,7 +69,8 @@ module _ (n : ℕ) (b : Set) (cb : Words n b.care) (vb : Words n b.value) where
 
     like_overlaps : overlaps n p b ≡ true → overlaps n (like n p b i) b ≡ true
     like_overlaps o = overlaps_bits n (like n p b i) b (fixed_care n p b.value i cp) ∙ every_of (n * 32) _ λ j l.
-        ap₂ (λ (x y : Bool). x && bit_at b.care j ⇒ y == bit_at b.value j) (fixed_care_bit n p b.value i j l) (fixed_value_bit n p b.value i j l)
+        ap₂ (λ (x y : Bool). x && bit_at b.care j ⇒ y == bit_at b.value j) (fixed_care_bit n p b.value i j l)
+        (fixed_value_bit n p b.value i j l)
         ∙ implied _ _
         (always (λ c v d w s. (c && d ⇒ v == w) ⇒ ((c || s) && d ⇒ (v && not s || w && s) == w)) tt
         (bit_at p.care j) (bit_at p.value j) (bit_at b.care j) (bit_at b.value j) (eqb i j))
@@ -86,7 +88,8 @@ module _ (n : ℕ) (b : Set) (cb : Words n b.care) (vb : Words n b.value) where
 
     -- of p's members outside b, those with b's bit here are left for later, and the others are this part
     split_here : (h : Header)
-        → one (contains n (unlike n p b i) h) + one (contains n (like n p b i) h && not (contains n b h)) ≡ one (contains n p h && not (contains n b h))
+        → one (contains n (unlike n p b i) h) + one (contains n (like n p b i) h && not (contains n b h)) ≡ one
+        (contains n p h && not (contains n b h))
     split_here h =
         ap₂ (λ (x y : Bool). one x + one (y && not (contains n b h)))
         (fixed_exact n p (opposite n b.value) i cp inside p_wild h
@@ -95,7 +98,8 @@ module _ (n : ℕ) (b : Set) (cb : Words n b.care) (vb : Words n b.value) where
         ∙ split (contains n p h) (contains n b h) (bit_at h i) (bit_at b.value i)
         (λ e. (member_exactly n b cb h).0 e i inside b_cares)
       where
-        split : (P B x y : Bool) → (B ≡ true → x ≡ y) → one (P && (x == not y)) + one ((P && (x == y)) && not B) ≡ one (P && not B)
+        split : (P B x y : Bool) → (B ≡ true → x ≡ y) → one (P && (x == not y)) + one ((P && (x == y)) && not B) ≡ one
+            (P && not B)
         split false B x y f = refl
         split true true true true f = refl
         split true true false false f = refl
@@ -106,7 +110,8 @@ module _ (n : ℕ) (b : Set) (cb : Words n b.care) (vb : Words n b.value) where
         split true false false true f = refl
         split true false false false f = refl
 
-  still_covered : (p : Set) → Words n p.care → (i : ℕ) → i < n * 32 → bit_at (free n p b) i ≡ false → Covered p i → Covered p (suc i)
+  still_covered : (p : Set) → Words n p.care → (i : ℕ) → i < n * 32 → bit_at (free n p b) i ≡ false → Covered p i
+      → Covered p (suc i)
   unfolding Covered
   still_covered p cp i inside e c j l d = go (ℕ_discrete i j)
     where
@@ -139,18 +144,22 @@ module _ (n : ℕ) (b : Set) (cb : Words n b.care) (vb : Words n b.value) where
 
       go : (x : Bool) → bit_at (free n p b) i ≡ x
           → ((q : Set) → suc i + k ≡ n * 32 → Words n q.care → overlaps n q b ≡ true → Covered q (suc i) → (h : Header)
-          → holders n (parts_at n q b (those (bit_at (free n q b)) (positions k (suc i)))) h ≡ one (contains n q h && not (contains n b h)))
-          → holders n (parts_at n p b (keep_if x i (those (bit_at (free n p b)) (positions k (suc i))))) h ≡ one (contains n p h && not (contains n b h))
+          → holders n (parts_at n q b (those (bit_at (free n q b)) (positions k (suc i)))) h ≡ one
+          (contains n q h && not (contains n b h)))
+          → holders n (parts_at n p b (keep_if x i (those (bit_at (free n p b)) (positions k (suc i))))) h ≡ one
+          (contains n p h && not (contains n b h))
       go true f ih =
           ap (λ (m : ℕ). one (contains n (unlike n p b i) h) + m)
           (ap (λ (l : List ℕ). holders n (parts_at n (like n p b i) b l) h)
           (those_same _ _ k (suc i) (λ j l m. like_free p cp i inside f j (omega arith) (λ q. omega arith)))
-          ∙ ih (like n p b i) (omega arith) (fixed_care n p b.value i cp) (like_overlaps p cp i inside f o) (like_covered p cp i inside f c) h)
+          ∙ ih (like n p b i) (omega arith) (fixed_care n p b.value i cp) (like_overlaps p cp i inside f o)
+          (like_covered p cp i inside f c) h)
           ∙ split_here p cp i inside f h
       go false f ih = ih p (omega arith) cp o (still_covered p cp i inside f c) h
 
   -- a header is in just one part if it is in p and not in b, and else in none
-  pub carve_exact : (p : Set) → Words n p.care → (h : Header) → holders n (carve n p b) h ≡ one (contains n p h && not (contains n b h))
+  pub carve_exact : (p : Set) → Words n p.care → (h : Header)
+      → holders n (carve n p b) h ≡ one (contains n p h && not (contains n b h))
   unfolding carve parts set_bits holders Covered
   carve_exact p cp h = go (overlaps n p b) refl
     where
@@ -159,7 +168,8 @@ module _ (n : ℕ) (b : Set) (cb : Words n b.care) (vb : Words n b.value) where
       apart true false f = refl
       apart true true f = absurd (f refl refl)
 
-      go : (o : Bool) → overlaps n p b ≡ o → holders n (cond o (parts n p b) (p ∷ [])) h ≡ one (contains n p h && not (contains n b h))
+      go : (o : Bool) → overlaps n p b ≡ o → holders n (cond o (parts n p b) (p ∷ [])) h ≡ one
+          (contains n p h && not (contains n b h))
       go true e = exact_from (n * 32) 0 p (omega arith) cp e (λ j l. absurd (omega arith)) h
       go false e = apart (contains n p h) (contains n b h) (λ x y. true≢false (sym (common_overlaps n p b cp cb h x y) ∙ e))
 

@@ -61,7 +61,8 @@ module _ (n : ℕ) (p : Set) (x : List ℕ) (i : ℕ) where
       (fixed_care w₀.care) (overwritten_fits n (single n i) x p.value fx) λ j l.
       ap₂ ◌⇒◌ (fixed_value_bit j l) (fixed_care_bit j l)
       ∙ implied _ _
-      (always (λ c v x s z. (v ⇒ c) ⇒ (v && not s || x && s ⇒ c || s)) tt (bit_at p.care j) (bit_at p.value j) (bit_at x j) (eqb i j) true)
+      (always (λ c v x s z. (v ⇒ c) ⇒ (v && not s || x && s ⇒ c || s)) tt (bit_at p.care j) (bit_at p.value j) (bit_at x j)
+      (eqb i j) true)
       (value_inside n p w₀ j l)
 
   -- a header is in it exactly if it is in p and has x's bit there

@@ -58,7 +58,8 @@ module _ (n : ℕ) (a b : Set) (wa : WellFormed n a) (wb : WellFormed n b) where
       ∙ every_same (n * 32) _ _ (λ i l.
       ap₂ (λ (c v : Bool). c ⇒ bit_at h i == v) (care_bit i l) (value_bit i l)
       ∙ same_true _ _ (implied _ _ (implied _ _ (implied _ _
-      (always (λ h c v d w. (v ⇒ c) ⇒ (w ⇒ d) ⇒ (c && d ⇒ v == w) ⇒ (c || d ⇒ h == (v || w)) == ((c ⇒ h == v) && (d ⇒ h == w))) tt
+      (always (λ h c v d w. (v ⇒ c) ⇒ (w ⇒ d) ⇒ (c && d ⇒ v == w) ⇒ (c || d ⇒ h == (v || w)) ==
+      ((c ⇒ h == v) && (d ⇒ h == w))) tt
       (bit_at h i) (bit_at a.care i) (bit_at a.value i) (bit_at b.care i) (bit_at b.value i))
       (value_inside n a wa i l)) (value_inside n b wb i l)) (every_at (n * 32) _ (sym (overlaps_bits n a b wa.care) ∙ o) i l)))
       ∙ every_and (n * 32) _ _

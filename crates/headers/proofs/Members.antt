@@ -16,7 +16,8 @@ use Rattle.headers.specs.Sets.{Header, Set, Rewrite, overwritten, outside, conta
 use Rattle.headers.specs.Sets.{rewritten, lowest, Lower}
 use Rattle.headers.proofs.Booleans.{◌⇒◌, ◌==◌, and_fst, both_ways, same_true, true_same, implied, implies}
 use Rattle.headers.proofs.BitLaws.{bit_and_lem, bit_or_lem, bit_zero}
-use Rattle.headers.proofs.Positions.{at, every_at, every_of, every_same, words_fit, bit_of_words, complement_at, words_ext, same_on_bits, zero_bits_lem, single_bit, single_fits}
+use Rattle.headers.proofs.Positions.{at, every_at, every_of, every_same, words_fit, bit_of_words, complement_at, words_ext, same_on_bits}
+use Rattle.headers.proofs.Positions.{zero_bits_lem, single_bit, single_fits}
 
 -- ---- membership
 
@@ -47,7 +48,8 @@ tidy_bits n s care =
     zero_bits_lem n (λ w. bit_and (word s.value w) (complement (word s.care w)))
     (λ w l. lt_of_le_of_lt (and_le_r (word s.value w) _) (omega arith))
     ∙ every_same (n * 32) _ _ λ i l.
-    ap not (bit_and_lem _ _ _ ∙ ap (λ (x : Bool). at (word s.value) i && x) (complement_at (word s.care) i (care.fits (i / 32) (omega arith))))
+    ap not (bit_and_lem _ _ _
+    ∙ ap (λ (x : Bool). at (word s.value) i && x) (complement_at (word s.care) i (care.fits (i / 32) (omega arith))))
     ∙ only_inside (at (word s.value) i) (at (word s.care) i)
 
 pub value_inside : (n : ℕ) (s : Set) → WellFormed n s → (i : ℕ) → i < n * 32 → (bit_at s.value i ⇒ bit_at s.care i) ≡ true
@@ -64,7 +66,8 @@ pub no_bits : (n : ℕ) → Words n (words n (λ w. 0))
 no_bits n = words_fit n (λ w. 0) (λ w l. omega arith)
 
 pub all_wild_well_formed : (n : ℕ) → WellFormed n (all_wild n)
-all_wild_well_formed n = well_formed n (all_wild n) (no_bits n) (no_bits n) (λ i l. ap (λ (b : Bool). b ⇒ bit_at (words n (λ w. 0)) i) (no_bit_lem n i l))
+all_wild_well_formed n = well_formed n (all_wild n) (no_bits n) (no_bits n)
+    (λ i l. ap (λ (b : Bool). b ⇒ bit_at (words n (λ w. 0)) i) (no_bit_lem n i l))
 
 -- every header is in the all-wild set
 pub all_wild_contains : (n : ℕ) (h : Header) → contains n (all_wild n) h ≡ true
@@ -82,7 +85,8 @@ module _ (n : ℕ) (s : Set) (care : Words n s.care) where
 
   -- it is in the set
   pub lowest_member : contains n s (lowest n s) ≡ true
-  lowest_member = (member_exactly n s care (lowest n s)).1 λ i l c. lowest_bit i l ∙ ap (λ (x : Bool). bit_at s.value i && x) c ∙ mathlib.Core.Bool.and-true (bit_at s.value i)
+  lowest_member = (member_exactly n s care (lowest n s)).1 λ i l c. lowest_bit i l ∙ ap (λ (x : Bool). bit_at s.value i && x) c
+      ∙ mathlib.Core.Bool.and-true (bit_at s.value i)
 
   -- no member is lower
   pub lowest_least : (h : Header) → contains n s h ≡ true → Lower n h (lowest n s) → ⊥
@@ -161,7 +165,8 @@ empty_exactly n o P fits exact = (
         let c : Words n s.care = fits s e in
         let h : Header = lowest n s in
         absurd (true≢false
-        (sym (lowest_member n s c) ∙ ap (λ (x : Option Set). among n x h) (sym e) ∙ exact h (lowest_fits n s c) ∙ f h (lowest_fits n s c)))
+        (sym (lowest_member n s c) ∙ ap (λ (x : Option Set). among n x h) (sym e) ∙ exact h (lowest_fits n s c)
+        ∙ f h (lowest_fits n s c)))
 
 -- ---- sets with the same members
 
@@ -184,7 +189,8 @@ module _ (n : ℕ) (h : Header) (fh : Words n h) where
       ∙ ap₂ (λ (x y : Bool). bit_at h j && not x || y && x) (single_bit n i j l)
       (bit_of_words n (λ w. complement (word h w)) j l ∙ complement_at (word h) j (fh.fits (j / 32) (omega arith)))
 
-module _ (n : ℕ) (a b : Set) (wa : WellFormed n a) (wb : WellFormed n b) (same : (h : Header) → Words n h → contains n a h ≡ contains n b h) where
+module _ (n : ℕ) (a b : Set) (wa : WellFormed n a) (wb : WellFormed n b) (same : (h : Header) → Words n h
+    → contains n a h ≡ contains n b h) where
   -- where a cares so does b: else a member of a, with that bit turned round, would be in b and not in a
   cares_too : (i : ℕ) → i < n * 32 → bit_at a.care i ≡ true → bit_at b.care i ≡ true
   unfolding flipped
@@ -263,4 +269,5 @@ same_members n a b wa wb same = λ i. record { care = cares i; value = values i 
             ∙ (member_exactly n b wb.care (lowest n a)).0 low_in_b i l (cares_too n a b wa wb same i l e)
         go i l false e =
             unset (bit_at a.value i) (bit_at a.care i) (value_inside n a wa i l) e
-            ∙ sym (unset (bit_at b.value i) (bit_at b.care i) (value_inside n b wb i l) (ap (λ (x : List ℕ). bit_at x i) (sym cares) ∙ e))
+            ∙ sym (unset (bit_at b.value i) (bit_at b.care i) (value_inside n b wb i l) (ap (λ (x : List ℕ). bit_at x i) (sym cares)
+            ∙ e))

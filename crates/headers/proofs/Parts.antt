@@ -21,7 +21,8 @@ module _ (n : ℕ) (h : Header) where
   within_held [] false e = refl
   within_held (s ∷ l) x e = go (contains n s h) x e (within_held l)
     where
-      go : (c x : Bool) → one c + holders n l h ≡ one x → ((x : Bool) → holders n l h ≡ one x → within n l h ≡ x) → (c || within n l h) ≡ x
+      go : (c x : Bool) → one c + holders n l h ≡ one x → ((x : Bool) → holders n l h ≡ one x → within n l h ≡ x)
+          → (c || within n l h) ≡ x
       go true true e ih = refl
       go true false e ih = absurd (omega arith)
       go false x e ih = ih x (omega arith)
@@ -32,7 +33,8 @@ module _ (n : ℕ) (h : Header) where
   held_once (s ∷ l) d zero m e = rw e (omega arith)
   held_once (s ∷ l) d (suc i) m e = let r = held_once l d i (omega arith) e in omega arith
 
-  held_twice : (l : List Set) (d : Set) (i j : ℕ) → i < j → j < length l → contains n (get_or l i d) h ≡ true → contains n (get_or l j d) h ≡ true
+  held_twice : (l : List Set) (d : Set) (i j : ℕ) → i < j → j < length l → contains n (get_or l i d) h ≡ true
+      → contains n (get_or l j d) h ≡ true
       → 2 ≤ holders n l h
   unfolding holders
   held_twice [] d i j k m e f = absurd (omega arith)

@@ -1,4 +1,5 @@
--- From words to positions: a test on every word is a test on every position, and lists of words with the same bits are equal. Assumes nothing.
+-- From words to positions: a test on every word is a test on every position, and lists of words with the same bits are equal. Assumes
+-- nothing.
 use mathlib.Core.Bool.{Bool, true, false, not, ◌&&◌, cond, false≢true, and-false, and-true}
 use mathlib.Core.List.{List, ◌∷◌}
 use mathlib.Core.Path.{◌≡◌, refl, sym, ap, ap₂, ◌∙◌}
@@ -114,7 +115,8 @@ word_ext a b ha hb h = bit_ext a b (λ k. go k (dec_lt k 32))
     go k (no l) = bit_high 32 k ha (omega arith) ∙ sym (bit_high 32 k hb (omega arith))
 
 -- two lists of words with the same bits are equal
-pub words_ext : (n : ℕ) (a b : List ℕ) → Words n a → Words n b → ((i : ℕ) → i < n * 32 → bit_at a i ≡ bit_at b i) → a ≡ b
+pub words_ext : (n : ℕ) (a b : List ℕ) → Words n a → Words n b → ((i : ℕ) → i < n * 32 → bit_at a i ≡ bit_at b i)
+    → a ≡ b
 unfolding bit_at
 words_ext n a b wa wb h = ext_get_or 0 a b (wa.long ∙ sym wb.long) λ w l.
     let m : w < n = rw wa.long at l in
@@ -128,7 +130,8 @@ pub same_on_bits : (n : ℕ) (m a b : ℕ → ℕ) → ((w : ℕ) → w < n → 
 same_on_bits n m a b fits = both_ways _ _
     (λ e. every_of (n * 32) _ λ i l. implies _ _ λ c.
     true_same _ _ (on_mask (at a i) (at b i) c (masked (i / 32) (31 - i % 32) (eqb-true _ _ (every_at n _ e (i / 32) (omega arith))))))
-    (λ e. every_of n _ λ w l. eq-eqb _ _ (bit_ext _ _ λ k. bit_and_lem (a w) (m w) k ∙ by w k l e (dec_lt k 32) ∙ sym (bit_and_lem (b w) (m w) k)))
+    (λ e. every_of n _ λ w l. eq-eqb _ _ (bit_ext _ _ λ k. bit_and_lem (a w) (m w) k ∙ by w k l e (dec_lt k 32)
+    ∙ sym (bit_and_lem (b w) (m w) k)))
   where
     masked : (w k : ℕ) → bit_and (a w) (m w) ≡ bit_and (b w) (m w) → (bit (a w) k && bit (m w) k) ≡ (bit (b w) k && bit (m w) k)
     masked w k e = sym (bit_and_lem (a w) (m w) k) ∙ ap (λ (x : ℕ). bit x k) e ∙ bit_and_lem (b w) (m w) k
@@ -143,7 +146,8 @@ same_on_bits n m a b fits = both_ways _ _
     by : (w k : ℕ) → w < n → every (n * 32) (λ i. at m i ⇒ at a i == at b i) ≡ true → Dec (k < 32)
         → (bit (a w) k && bit (m w) k) ≡ (bit (b w) k && bit (m w) k)
     by w k l e (yes q) =
-        masked_same (bit (a w) k) (bit (b w) k) (bit (m w) k) (at_position n w k l q (λ v j. (bit (m v) j ⇒ bit (a v) j == bit (b v) j) ≡ true) (every_at (n * 32) _ e))
+        masked_same (bit (a w) k) (bit (b w) k) (bit (m w) k)
+        (at_position n w k l q (λ v j. (bit (m v) j ⇒ bit (a v) j == bit (b v) j) ≡ true) (every_at (n * 32) _ e))
     by w k l e (no q) =
         let z : bit (m w) k ≡ false = bit_high 32 k (fits w l) (omega arith) in
         ap (λ (x : Bool). bit (a w) k && x) z ∙ and-false (bit (a w) k)

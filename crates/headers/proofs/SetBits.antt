@@ -31,7 +31,8 @@ first_of_lem t (suc k) s i later e = go (t s) refl e (first_of_lem t k (suc s) i
     go true d e ih = let z : s ≡ i = cc in record { low = omega arith; high = omega arith; passes = ap t (sym z) ∙ d }
     go false d e ih = let f = ih e in record { low = omega (arith, f.low); high = omega (arith, f.high); passes = f.passes }
 
-pub those_same : (t u : ℕ → Bool) (k s : ℕ) → ((i : ℕ) → s ≤ i → i < s + k → t i ≡ u i) → those t (positions k s) ≡ those u (positions k s)
+pub those_same : (t u : ℕ → Bool) (k s : ℕ) → ((i : ℕ) → s ≤ i → i < s + k → t i ≡ u i)
+    → those t (positions k s) ≡ those u (positions k s)
 unfolding those positions
 those_same t u zero s h = refl
 those_same t u (suc k) s h =
@@ -61,14 +62,16 @@ those_later t u (suc k) s i later h z e = go (t s) refl e (those_later t u k (su
         (sym (h s (omega arith) (omega arith) (λ q. let l : suc s ≤ i = f.low in omega arith)) ∙ d)
         ∙ ih e
 
-pub those_none : (t : ℕ → Bool) (k s : ℕ) → ((i : ℕ) → s ≤ i → i < s + k → t i ≡ false) → those t (positions k s) ≡ []
+pub those_none : (t : ℕ → Bool) (k s : ℕ) → ((i : ℕ) → s ≤ i → i < s + k → t i ≡ false)
+    → those t (positions k s) ≡ []
 unfolding those positions
 those_none t zero s h = refl
 those_none t (suc k) s h =
     ap (λ (b : Bool). keep_if b s (those t (positions k (suc s)))) (h s (omega arith) (omega arith))
     ∙ those_none t k (suc s) (λ i l m. h i (omega arith) (omega arith))
 
-pub none_passes : (t : ℕ → Bool) (k s : ℕ) → those t (positions k s) ≡ [] → (i : ℕ) → s ≤ i → i < s + k → t i ≡ false
+pub none_passes : (t : ℕ → Bool) (k s : ℕ) → those t (positions k s) ≡ [] → (i : ℕ) → s ≤ i → i < s + k
+    → t i ≡ false
 unfolding those positions
 none_passes t zero s e i l m = absurd (omega arith)
 none_passes t (suc k) s e i l m = go (t s) refl e (none_passes t k (suc s))
@@ -88,18 +91,21 @@ unfolding those positions
 first_is d t zero s i l m e h = absurd (omega arith)
 first_is d t (suc k) s i l m e h = go (ℕ_discrete s i) (first_is d t k (suc s) i)
   where
-    go : Dec (s ≡ i) → (suc s ≤ i → i < suc s + k → t i ≡ true → ((j : ℕ) → j < i → t j ≡ false) → first_of d (those t (positions k (suc s))) ≡ i)
+    go : Dec (s ≡ i) → (suc s ≤ i → i < suc s + k → t i ≡ true → ((j : ℕ) → j < i → t j ≡ false)
+        → first_of d (those t (positions k (suc s))) ≡ i)
         → first_of d (keep_if (t s) s (those t (positions k (suc s)))) ≡ i
     go (yes q) ih = ap (λ (b : Bool). first_of d (keep_if b s (those t (positions k (suc s))))) (ap t q ∙ e) ∙ q
     go (no q) ih =
-        ap (λ (b : Bool). first_of d (keep_if b s (those t (positions k (suc s))))) (h s (omega arith)) ∙ ih (omega arith) (omega arith) e h
+        ap (λ (b : Bool). first_of d (keep_if b s (those t (positions k (suc s))))) (h s (omega arith))
+        ∙ ih (omega arith) (omega arith) e h
 
 -- ---- the first bit that is set
 
 -- no word has a bit set exactly if there is no set bit
 pub no_bit_none : (n : ℕ) (l : List ℕ) → Words n l → no_bit n l ≡ true → set_bits n l ≡ []
 unfolding set_bits bit_at
-no_bit_none n l w e = those_none _ (n * 32) 0 λ i p m. unset _ (every_at (n * 32) _ (sym (zero_bits_lem n (word l) w.fits) ∙ e) i (omega arith))
+no_bit_none n l w e = those_none _ (n * 32) 0 λ i p m. unset _
+    (every_at (n * 32) _ (sym (zero_bits_lem n (word l) w.fits) ∙ e) i (omega arith))
   where
     unset : (b : Bool) → not b ≡ true → b ≡ false
     unset true e = absurd (false≢true e)
@@ -130,7 +136,8 @@ top_bit x p h =
     }
 
 -- in the first word that is not 0 the first set bit is its highest
-pub first_set_in : (n : ℕ) (l : List ℕ) (w : ℕ) → w < n → ((v : ℕ) → v < w → word l v ≡ 0) → 0 < word l w → word l w < 2 ^ 32
+pub first_set_in : (n : ℕ) (l : List ℕ) (w : ℕ) → w < n → ((v : ℕ) → v < w → word l v ≡ 0) → 0 < word l w
+    → word l w < 2 ^ 32
     → first_set n l ≡ w * 32 + count_leading_zeros 32 (word l w)
 unfolding first_set set_bits bit_at
 first_set_in n l w inside zeros p h =

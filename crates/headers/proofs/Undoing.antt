@@ -24,7 +24,8 @@ module _ (n : ℕ) (r : Rewrite) (t : Set) (m : Words n r.mask) where
         (ap (λ (x : Bool). bit_at t.care i ⇒ x == bit_at t.value i) (sym (rewritten_bit_lem n r m h i l))
         ∙ every_at (n * 32) _ (sym (contains_bits n t c (rewritten n r h)) ∙ e) i l)
 
-    widened_exact : overlaps n t (writes r) ≡ true → (h : Header) → contains n (widened n r.mask t) h ≡ contains n t (rewritten n r h)
+    widened_exact : overlaps n t (writes r) ≡ true → (h : Header) → contains n (widened n r.mask t) h ≡ contains n t
+        (rewritten n r h)
     widened_exact o h =
         contains_bits n (widened n r.mask t) (outside_fits n r.mask t.care c) h
         ∙ every_same (n * 32) _ _ (λ i l.
@@ -41,7 +42,8 @@ module _ (n : ℕ) (r : Rewrite) (t : Set) (m : Words n r.mask) where
     unfolding undone
     undone_exact h = go (overlaps n t (writes r)) refl
       where
-        go : (o : Bool) → overlaps n t (writes r) ≡ o → among n (cond o (some (widened n r.mask t)) none) h ≡ contains n t (rewritten n r h)
+        go : (o : Bool) → overlaps n t (writes r) ≡ o → among n (cond o (some (widened n r.mask t)) none) h ≡ contains n t
+            (rewritten n r h)
         go true e = widened_exact e h
         go false e = sym (refuted _ λ p. true≢false (sym (rewrites_overlap h p) ∙ e))
 
@@ -54,7 +56,8 @@ module _ (n : ℕ) (r : Rewrite) (t : Set) (m : Words n r.mask) where
           (outside_fits n r.mask t.care wt.care) (outside_fits n r.mask t.value wt.value) λ i l.
           ap₂ ◌⇒◌ (outside_bit n r.mask t.value m i l) (outside_bit n r.mask t.care m i l)
           ∙ implied _ _
-          (always (λ v c m x y. (v ⇒ c) ⇒ (v && not m ⇒ c && not m)) tt (bit_at t.value i) (bit_at t.care i) (bit_at r.mask i) true true)
+          (always (λ v c m x y. (v ⇒ c) ⇒ (v && not m ⇒ c && not m)) tt (bit_at t.value i) (bit_at t.care i) (bit_at r.mask i) true
+          true)
           (value_inside n t wt i l)
 
       go : (o : Bool) → cond o (some (widened n r.mask t)) none ≡ some s → WellFormed n s
@@ -62,7 +65,8 @@ module _ (n : ℕ) (r : Rewrite) (t : Set) (m : Words n r.mask) where
       go false e = let z : ◌≡◌ {A = ℕ} 0 1 = cc in absurd (omega arith)
 
   -- it is empty exactly if no header's rewrite is in the set
-  pub undone_empty : WellFormed n t → (undone n r t ≡ none) ↔ ((h : Header) → Words n h → contains n t (rewritten n r h) ≡ false)
+  pub undone_empty : WellFormed n t
+      → (undone n r t ≡ none) ↔ ((h : Header) → Words n h → contains n t (rewritten n r h) ≡ false)
   undone_empty wt =
       empty_exactly n (undone n r t) (λ h. contains n t (rewritten n r h)) (λ s e. (undone_well_formed wt s e).care)
       (λ h w. undone_exact wt.care h)

@@ -1,6 +1,7 @@
 -- Words of 32 bits, lists of them, and their bits in document 01's order.
 -- Everything is over lists of n words, for any n; document 01's headers have four. Assumes nothing.
-use Rattle.std.specs.Prelude.{Bool, true, false, ◌&&◌, cond, List, [], ◌∷◌, ℕ, zero, suc, ◌-◌, ◌*◌, ◌/◌, ◌%◌, ◌^◌, ◌<◌, ◌≡◌, eqb, length, get_or}
+use Rattle.std.specs.Prelude.{Bool, true, false, ◌&&◌, cond, List, [], ◌∷◌, ℕ, zero, suc, ◌-◌, ◌*◌, ◌/◌, ◌%◌}
+use Rattle.std.specs.Prelude.{◌^◌, ◌<◌, ◌≡◌, eqb, length, get_or}
 
 -- word w of a list; 0 past its end
 abbrev pub word : List ℕ → ℕ → ℕ

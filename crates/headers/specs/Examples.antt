@@ -76,7 +76,11 @@ whole_exit_traced = refl
 -- ---- more words: document 02, 2.6
 
 -- four more words, all of them wild, come last
-four_more : padded 4 (tp_dst 80) ≡ record { care = 0 ∷ 0 ∷ 0xffff ∷ 0 ∷ 0 ∷ 0 ∷ 0 ∷ 0 ∷ []; value = 0 ∷ 0 ∷ 80 ∷ 0 ∷ 0 ∷ 0 ∷ 0 ∷ 0 ∷ [] }
+four_more : padded 4 (tp_dst 80) ≡ record {
+  care = 0 ∷ 0 ∷ 0xffff ∷ 0 ∷ 0 ∷ 0 ∷ 0 ∷ 0 ∷ [];
+  value =
+      0 ∷ 0 ∷ 80 ∷ 0 ∷ 0 ∷ 0 ∷ 0 ∷ 0 ∷ [];
+}
 four_more = refl
 
 -- where no bit of word 3 is free, the first part is carved in word 4

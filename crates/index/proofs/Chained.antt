@@ -60,7 +60,8 @@ module _ (port_of : ℕ → ℕ) (n p : ℕ) where
             none = ih.none;
           }
             where
-              at : (e : ℕ) → j ≤ e → e < first_of (λ e. eqb (port_of e) p) k (suc j) → e < n → port_of e ≡ p → Dec (e ≡ j) → ⊥
+              at : (e : ℕ) → j ≤ e → e < first_of (λ e. eqb (port_of e) p) k (suc j) → e < n → port_of e ≡ p
+                  → Dec (e ≡ j) → ⊥
               at e a b c q (yes z) = true≢false (sym (eq-eqb (port_of j) p (ap port_of (sym z) ∙ q)) ∙ d)
               at e a b c q (no z) = ih.skipped e (omega arith) b c q
 
@@ -97,7 +98,8 @@ module _ (n : ℕ) (port_of : ℕ → ℕ) (first next : ℕ) (apart : first + 4
               ∙ c.heads p k
               ∙ sym (next_back port_of n p e l ∙ ap (λ (b : Bool). cond b e (next_with port_of n p (suc e))) (ne_eqb (port_of e) p d))
 
-      links : (b : ℕ) → e ≤ b → b < n → get_or (set linked (first + port_of e) e) (next + b) 0 ≡ next_with port_of n (port_of b) (suc b)
+      links : (b : ℕ) → e ≤ b → b < n → get_or (set linked (first + port_of e) e) (next + b) 0 ≡ next_with port_of n
+          (port_of b) (suc b)
       links b k j = get_or-set_other linked (first + port_of e) (next + b) e 0 (λ z. omega arith) ∙ go (ℕ_discrete b e)
         where
           go : Dec (b ≡ e) → get_or linked (next + b) 0 ≡ next_with port_of n (port_of b) (suc b)

@@ -27,7 +27,8 @@ push_other cells first next e i a b =
 
 -- and another chain, where neither is a cell of it
 push_kept : (n : ℕ) (port_of : ℕ → ℕ) (first next from : ℕ) (cells : List ℕ) (i j e : ℕ)
-    → ((p : ℕ) → p < 4096 → (first + p ≡ i → ⊥) × (first + p ≡ j → ⊥)) → ((b : ℕ) → b < n → (next + b ≡ i → ⊥) × (next + b ≡ j → ⊥))
+    → ((p : ℕ) → p < 4096 → (first + p ≡ i → ⊥) × (first + p ≡ j → ⊥))
+    → ((b : ℕ) → b < n → (next + b ≡ i → ⊥) × (next + b ≡ j → ⊥))
     → Chain n port_of first next from cells → Chain n port_of first next from (pushed cells i j e)
 push_kept n port_of first next from cells i j e a b c =
     chain_kept n port_of first next from (set cells j (get_or cells i 0)) i e (λ p l. (a p l).0) (λ k l. (b k l).0)
@@ -47,7 +48,8 @@ module _ (f : List ℕ) (s : Shape) (ok : Accepted f s) (cells : List ℕ) where
   -- entry e, with the bytes x, goes to the front of the chains of its ports, which leaves `one` and then `two`, and its priority is stored
   pub partly_more : (e : ℕ) (x : List ℕ) → EntryRead (width_in f) (fabric_in f) e x
       → (out into rank : ℕ) → out ≡ entry_out x → into ≡ entry_in x → rank ≡ entry_priority x
-      → (one two : List ℕ) → one ≡ pushed cells (first_out + out) (next_out + e) e → two ≡ pushed one (first_in + into) (next_in + e) e
+      → (one two : List ℕ) → one ≡ pushed cells (first_out + out) (next_out + e) e
+      → two ≡ pushed one (first_in + into) (next_in + e) e
       → Partly f (suc e) cells → Partly f e (set two (ranks + e) rank)
   partly_more e x read out into rank o i r one two a b p =
       let most = few in

@@ -40,7 +40,8 @@ module _ (input area : List ℕ) where
   abbrev called : ℕ → Option Call → Outcome
   called w o = pick (leb (4 * query_words w) (length input)) (made_or o w input area) (refused 14 0 area)
 
-  is_called : {w : ℕ} {o : Option Call} → width_marked first ≡ w → call_named (bits 30 0 first) ≡ o → called w o ≡ program_call input area
+  is_called : {w : ℕ} {o : Option Call} → width_marked first ≡ w → call_named (bits 30 0 first) ≡ o
+      → called w o ≡ program_call input area
   unfolding program_call
   is_called e n = sym (ap₂ called e n)
 
@@ -69,7 +70,8 @@ module _ (input area : List ℕ) where
   pub call_made : (w : ℕ) (call : Call) (port limit budget : ℕ) (set : Set) (out : Outcome)
       → width_marked first ≡ w → 4 * query_words w ≤ length input → call_named (bits 30 0 first) ≡ some call
       → port ≡ word_at input 1 → limit ≡ word_at input 2 → budget ≡ word_at input 3 → set ≡ asked_in w input
-      → out ≡ call_of call w (take (length input - 4 * query_words w) (drop (4 * query_words w) input)) (query port limit budget set) area
+      → out ≡ call_of call w (take (length input - 4 * query_words w) (drop (4 * query_words w) input))
+      (query port limit budget set) area
       → out ≡ program_call input area
   call_made w call port limit budget set out width long named p l b s made =
       let n = 4 * query_words w in

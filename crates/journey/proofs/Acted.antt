@@ -22,7 +22,8 @@ module _ (f : List ℕ) (s : Shape) (ok : Accepted f s) where
   applied_stored e x read k at t is h g made =
       let said = words_said f s ok in
       ap (λ (a : Act). acted wide_words (padded_act (wide_words - (fabric_in f).words) a) h) (sym read.action)
-      ∙ ap₂ (λ (n m : ℕ). acted wide_words (padded_act (wide_words - n) (entry_action m x)) h) (words_are f s ok ∙ sym said) (sym said)
+      ∙ ap₂ (λ (n m : ℕ). acted wide_words (padded_act (wide_words - n) (entry_action m x)) h) (words_are f s ok ∙ sym said)
+      (sym said)
       ∙ ap₂ (λ (u : Transfer) (j : ℕ). acted wide_words (record { transfer = u; rewrite = rewrite_stored s.words x j }) h)
       (sym is) (sym at)
       ∙ sym made

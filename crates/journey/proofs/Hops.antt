@@ -125,7 +125,8 @@ module _ (F : Fabric) (j : Journey) where
           record { fate = refl; port = refl; hops = sym (more_hops q n); header = sym is; entries = sym (more_entries q l n k) }
 
       -- "An out-port that is some link's from-port: the packet goes on at the to-port."
-      pub hopped_on : (x y : ℕ) → out_port_of F e ≡ x → (x ≡ 0 → ⊥) → F.link_to x ≡ y → (y ≡ 0 → ⊥) → Hopped F j (sent 3 y)
+      pub hopped_on : (x y : ℕ) → out_port_of F e ≡ x → (x ≡ 0 → ⊥) → F.link_to x ≡ y → (y ≡ 0 → ⊥)
+          → Hopped F j (sent 3 y)
       unfolding fate_of port_of header_of taken_by
       hopped_on zero y o d z u = absurd (d refl)
       hopped_on (suc x) zero o d z u = absurd (u refl)

@@ -32,7 +32,8 @@ unfolding sixteen fate_of port_of header_of taken_by packet_words
 dropped_words = refl
 
 -- no entry takes it at port 12, where it started: lost under 1.0, dropped under 1.3
-lost_words : packet_words old (missed 12 (1 ∷ 6 ∷ 8 ∷ 9 ∷ []) []) ≡ 2 ∷ 0 ∷ 12 ∷ 0 ∷ 1 ∷ 6 ∷ 8 ∷ 9 ∷ replicate 16 0
+lost_words : packet_words old (missed 12 (1 ∷ 6 ∷ 8 ∷ 9 ∷ []) []) ≡ 2 ∷ 0 ∷ 12 ∷ 0 ∷ 1 ∷ 6 ∷ 8 ∷ 9 ∷ replicate 16
+    0
 unfolding sixteen fate_of port_of header_of taken_by packet_words
 lost_words = refl
 

@@ -22,7 +22,8 @@ pub words_from_fit : (n : ℕ) (f : List ℕ) (k : ℕ) → Words n (words_from 
 words_from_fit n f k = words_fit n _ (λ w l. word_fits f (k + w))
 
 -- an array of four words that were read
-pub four : (f : List ℕ) (k a b c d : ℕ) → a ≡ word_at f k → b ≡ word_at f (k + 1) → c ≡ word_at f (k + 2) → d ≡ word_at f (k + 3)
+pub four : (f : List ℕ) (k a b c d : ℕ) → a ≡ word_at f k → b ≡ word_at f (k + 1) → c ≡ word_at f (k + 2)
+    → d ≡ word_at f (k + 3)
     → (a ∷ b ∷ c ∷ d ∷ []) ≡ words_from 4 f k
 four f k a b c d ha hb hc hd = rw (ha, hb, hc, hd, add-zero)
 
@@ -55,7 +56,8 @@ module _ (n : ℕ) (f : List ℕ) (k : ℕ) where
   unfolding word_at
   part_word j h =
       let e : 4 * k + j * 4 ≡ (k + j) * 4 = omega arith in
-      let z : get_or (bytes_from n f k) (j * 4) 0 ≡ get_or f ((k + j) * 4) 0 = part_byte (j * 4) (omega arith) ∙ ap (λ (i : ℕ). get_or f i 0) e in
+      let z : get_or (bytes_from n f k) (j * 4) 0 ≡ get_or f ((k + j) * 4) 0 = part_byte (j * 4) (omega arith)
+      ∙ ap (λ (i : ℕ). get_or f i 0) e in
       rw (z, part_word_byte j 1 h (omega arith), part_word_byte j 2 h (omega arith), part_word_byte j 3 h (omega arith))
 
 -- a run of words of a part, and so a set of it

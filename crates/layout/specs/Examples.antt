@@ -47,7 +47,8 @@ counting (suc n) k = k ∷ 0 ∷ 0 ∷ 0 ∷ counting n (suc k)
 abbrev an_edge : ℕ → List ℕ
 an_edge n = 0xa9 ∷ 0xcb ∷ 0xed ∷ 0x2f ∷ counting n 1
 
-edge_numbers : (edge_words 4 ∷ edge_words 8 ∷ edge_group (an_edge 8) ∷ edge_port (an_edge 8) ∷ []) ≡ 9 ∷ 17 ∷ 0xfedc ∷ 0xba9 ∷ []
+edge_numbers : (edge_words 4 ∷ edge_words 8 ∷ edge_group (an_edge 8) ∷ edge_port (an_edge 8) ∷ []) ≡ 9 ∷ 17 ∷ 0xfedc ∷
+    0xba9 ∷ []
 unfolding word_at
 edge_numbers = refl
 
@@ -66,7 +67,8 @@ edge_set_2 = refl
 abbrev an_entry : ℕ → List ℕ
 an_entry n = 0xa9 ∷ 0xcb ∷ 0xed ∷ 0x4f ∷ 0x21 ∷ 0x03 ∷ 0 ∷ 0x20 ∷ counting n 2
 
-entry_numbers : (entry_words 4 ∷ entry_words 8 ∷ entry_priority (an_entry 16) ∷ entry_in (an_entry 16) ∷ entry_out (an_entry 16) ∷ [])
+entry_numbers : (entry_words 4 ∷ entry_words 8 ∷ entry_priority (an_entry 16) ∷ entry_in (an_entry 16) ∷ entry_out (an_entry 16)
+    ∷ [])
     ≡ 18 ∷ 34 ∷ 0xfedc ∷ 0xba9 ∷ 0x321 ∷ []
 unfolding word_at
 entry_numbers = refl
@@ -82,7 +84,11 @@ entry_match_2 : entry_match 8 (an_entry 32) ≡ record {
 unfolding word_at
 entry_match_2 = refl
 
-entry_rewrite_lem : entry_rewrite 4 (an_entry 16) ≡ record { mask = 10 ∷ 11 ∷ 12 ∷ 13 ∷ []; value = 14 ∷ 15 ∷ 16 ∷ 17 ∷ [] }
+entry_rewrite_lem : entry_rewrite 4 (an_entry 16) ≡ record {
+  mask = 10 ∷ 11 ∷ 12 ∷ 13 ∷ [];
+  value =
+      14 ∷ 15 ∷ 16 ∷ 17 ∷ [];
+}
 unfolding word_at
 entry_rewrite_lem = refl
 
@@ -144,5 +150,6 @@ own_bytes_lem = refl
 
 -- ---- F11, F12: the limits, and how long a file they allow
 
-limits : (most_entries 4 ∷ most_bytes 4 ∷ most_entries 8 ∷ most_bytes 8 ∷ 4 * most_words ∷ []) ≡ 512 ∷ 40200 ∷ 400 ∷ 59784 ∷ 59784 ∷ []
+limits : (most_entries 4 ∷ most_bytes 4 ∷ most_entries 8 ∷ most_bytes 8 ∷ 4 * most_words ∷ []) ≡ 512 ∷ 40200 ∷ 400 ∷
+    59784 ∷ 59784 ∷ []
 limits = refl

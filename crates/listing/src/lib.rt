@@ -2,7 +2,8 @@
 // its count".
 #![tactic(auto)]
 
-ghost use Rattle.std.specs.Prelude.{◌++◌, map, ◌≡◌, ◌+◌, ◌-◌, ◌*◌, ◌^◌, ◌<◌, ◌≤◌, ltb, length, get_or, drop};
+ghost use Rattle.std.specs.Prelude.{◌++◌, map, ◌≡◌, ◌+◌, ◌-◌, ◌*◌, ◌^◌, ◌<◌, ◌≤◌, ltb, length, get_or};
+ghost use Rattle.std.specs.Prelude.{drop};
 ghost use Rattle.answer.specs.Answer.{written_at};
 ghost use Rattle.layout.specs.Records.{Width, set_words, port_of_edge};
 ghost use Rattle.wide.specs.Forms.{wide_of, narrowed};

@@ -52,7 +52,8 @@ module _ (f : List ℕ) (s : Shape) (ok : Accepted f s) (budget limit base width
 
   pub lost_passed : (t : Set) (area counters last : List ℕ) (r : ℕ)
       → Traced f lost_ask (lost_events f (16 - (17 - limit)) t) (replicate 2 0) area r counters last
-      → played_then (record { status = r; made = get_or counters 0 0; words = get_or counters 1 0 }) last ≡ lost_pass_of f limit budget t area
+      → played_then (record { status = r; made = get_or counters 0 0; words = get_or counters 1 0 }) last ≡ lost_pass_of f limit budget
+      t area
   unfolding found_by
   lost_passed t area counters last r T =
       T.played ∙ ap (λ (es : List Event). play budget (listed (width_in f)) es (begin area)) (lost_events_lem t)

@@ -32,7 +32,8 @@ place_there : (f : List ℕ) (x : ℕ) → is_in_port (wide_in f) x ≡ ltb 0 (p
 unfolding place_at fabric_in fabric_of
 place_there f x = go (ltb 0 (edge_at f (shape_in f) x))
   where
-    go : (b : Bool) → (b || ltb 0 ((fabric_in f).link_from x)) ≡ ltb 0 (cond b (4095 + edge_at f (shape_in f) x) ((fabric_in f).link_from x))
+    go : (b : Bool) → (b || ltb 0 ((fabric_in f).link_from x)) ≡ ltb 0
+        (cond b (4095 + edge_at f (shape_in f) x) ((fabric_in f).link_from x))
     go true = sym (lt-ltb 0 (4095 + edge_at f (shape_in f) x) (omega arith))
     go false = refl
 
@@ -132,7 +133,8 @@ module _ {f ask index : List ℕ} {t : Set} {counters₀ area₀ : List ℕ} {po
       pub port_ended : (r ≡ 0 → ⊥) → Traced f ask (lost_events f hops t) counters₀ area₀ r counters' area'
       port_ended nz = record {
         played =
-            play_ended (budget_of ask) (found_by f ask) (of_port port) (flat_map of_port (in_ports_lem f (suc port))) (world_of counters area)
+            play_ended (budget_of ask) (found_by f ask) (of_port port) (flat_map of_port (in_ports_lem f (suc port)))
+            (world_of counters area)
             (world_of counters' area') r nz played
             ∙ with_later;
         counters_long = w.counters_long;
@@ -145,7 +147,8 @@ module _ {f ask index : List ℕ} {t : Set} {counters₀ area₀ : List ℕ} {po
         area_long = a ∙ x.area_long;
         left =
             ap (λ (j : ℕ). run f ask (flat_map of_port (in_ports_lem f j)) counters' area') (add-one port)
-            ∙ play_on (budget_of ask) (found_by f ask) (of_port port) (flat_map of_port (in_ports_lem f (suc port))) (world_of counters area)
+            ∙ play_on (budget_of ask) (found_by f ask) (of_port port) (flat_map of_port (in_ports_lem f (suc port)))
+            (world_of counters area)
             (world_of counters' area')
             (ap (λ (s : ℕ). played_of s counters' area') (sym z) ∙ played)
             ∙ with_later;

@@ -27,10 +27,13 @@ module _ (f : List ℕ) (s : Shape) (ok : Accepted f s) (x : ℕ) (h : Header) (
       ap₂ (λ (n : ℕ) (m : Set). contains wide_words (widest n m) h) (words_are f s ok) (sym read.matches)
 
   pub other_port : (entry_in e ≡ x → ⊥) → candidate (wide_in f) x h i ≡ false
-  other_port d = ap (λ (b : Bool). b && holds (wide_in f) i h) (ne_eqb x (in_port_of (fabric_in f) i) (λ q. d (read.in_port_lem ∙ sym q)))
+  other_port d = ap (λ (b : Bool). b && holds (wide_in f) i h)
+      (ne_eqb x (in_port_of (fabric_in f) i) (λ q. d (read.in_port_lem ∙ sym q)))
 
-  pub no_match : contains wide_words (widest (width_in f) (entry_match (width_in f) e)) h ≡ false → candidate (wide_in f) x h i ≡ false
-  no_match d = ap (λ (b : Bool). eqb x (in_port_of (fabric_in f) i) && b) (holds_is ∙ d) ∙ and-false (eqb x (in_port_of (fabric_in f) i))
+  pub no_match : contains wide_words (widest (width_in f) (entry_match (width_in f) e)) h ≡ false
+      → candidate (wide_in f) x h i ≡ false
+  no_match d = ap (λ (b : Bool). eqb x (in_port_of (fabric_in f) i) && b) (holds_is ∙ d)
+      ∙ and-false (eqb x (in_port_of (fabric_in f) i))
 
   pub is_match : entry_in e ≡ x → contains wide_words (widest (width_in f) (entry_match (width_in f) e)) h ≡ true
       → candidate (wide_in f) x h i ≡ true

@@ -24,7 +24,8 @@ module _ (f : List ℕ) (s : Shape) (ok : Accepted f s) where
       let d = edge_there f s x e in
       omega (arith, d.port_is)
 
-  pub edge_looked_up : (t : List ℕ) → EdgeTable f s.edges t → (x : ℕ) → x < 4096 → ltb 0 (get_or t x 0) ≡ (fabric_in f).is_edge x
+  pub edge_looked_up : (t : List ℕ) → EdgeTable f s.edges t → (x : ℕ) → x < 4096
+      → ltb 0 (get_or t x 0) ≡ (fabric_in f).is_edge x
   unfolding fabric_of edge_at
   edge_looked_up t T x l = ap (ltb 0) (T.holds x l) ∙ sym (ap (λ (F : Forwarding.Fabric). F.is_edge x) (fabric_is f s ok))
 
@@ -48,7 +49,8 @@ module _ (f : List ℕ) (s : Shape) (ok : Accepted f s) where
         numbered = T.holds x high ∙ d.at_is;
         low = omega (arith, d.port_is, edge_port_low f s ok d.number_then d.below);
         high = high;
-        group_is = ap (λ (F : Forwarding.Fabric). F.group x) (fabric_is f s ok) ∙ ap (under 0 (λ i. edge_group (edge_bytes f i))) d.at_is;
+        group_is = ap (λ (F : Forwarding.Fabric). F.group x) (fabric_is f s ok)
+            ∙ ap (under 0 (λ i. edge_group (edge_bytes f i))) d.at_is;
       }
 
   module _ (t : List ℕ) (T : StartTable f s.edges s.links t) (x : ℕ) (l : x < 4096) where

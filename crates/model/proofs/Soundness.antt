@@ -26,7 +26,8 @@ use Rattle.model.proofs.Shapes.{fabric_is, edge_there}
 -- ---- links found by one of their ports
 
 -- the other port of the link with the port x, by number; 0 where no link has it
-module _ (key other : ℕ → ℕ) (n : ℕ) (apart : (i j : ℕ) → i < j → j < n → other i ≡ other j → ⊥) (low : (i : ℕ) → i < n → 1 ≤ key i) where
+module _ (key other : ℕ → ℕ) (n : ℕ) (apart : (i j : ℕ) → i < j → j < n → other i ≡ other j → ⊥) (low : (i : ℕ)
+    → i < n → 1 ≤ key i) where
   -- found by x, it is found by its other port, and gives x back
   across_back : (x y : ℕ) → under 0 other (number (recent key n) x) ≡ suc y → under 0 key (number (recent other n) (suc y)) ≡ x
   across_back x y = go (number (recent key n) x) refl

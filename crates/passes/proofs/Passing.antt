@@ -46,14 +46,16 @@ module _
     }
 
     -- "The first stop is the target with the limit."
-    first_stop : 1 ≤ target → target < 4096 → (t : Set) → events_at f target t (16 - (16 - limit)) [] ≡ trace (wide_in f) limit target t
+    first_stop : 1 ≤ target → target < 4096 → (t : Set) → events_at f target t (16 - (16 - limit)) [] ≡ trace
+        (wide_in f) limit target t
     first_stop low high t =
         port_events f target (16 - (16 - limit)) [] t high (λ z. omega arith)
         ∙ ap (λ (hops : ℕ). stop (wide_in f) hops target t []) (let e : 16 - (16 - limit) ≡ limit = omega arith in e)
 
     pub passed : (t : Set) (area counters last : List ℕ) (r : ℕ) → 1 ≤ target → target < 4096
         → Traced f ask (events_at f target t (16 - (16 - limit)) []) (replicate 2 0) area r counters last
-        → played_then (record { status = r; made = get_or counters 0 0; words = get_or counters 1 0 }) last ≡ pass_of f mode target limit budget t area
+        → played_then (record { status = r; made = get_or counters 0 0; words = get_or counters 1 0 }) last ≡ pass_of f mode target
+        limit budget t area
     unfolding found_by
     passed t area counters last r low high T =
         T.played

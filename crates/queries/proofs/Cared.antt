@@ -26,7 +26,8 @@ module _ (low high : List ℕ) (first : length low ≡ half) (w : ℕ) where
   cared_four e =
       subst (λ (w : ℕ). cared half low ≡ cared w (take w (low ++ high))) (sym e) (ap (cared half) (sym (take_at low high half first)))
 
-  pub cared_eight : length high ≡ half → Width w → ¬ (w ≡ half) → cared_after (cared half low) high ≡ cared w (take w (low ++ high))
+  pub cared_eight : length high ≡ half → Width w → ¬ (w ≡ half) → cared_after (cared half low) high ≡ cared w
+      (take w (low ++ high))
   cared_eight last d n =
       let e : 8 ≡ w = omega arith in
       let all : length (low ++ high) ≤ 8 = omega (arith, length-append low high) in

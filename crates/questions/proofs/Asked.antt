@@ -64,7 +64,8 @@ module _ (f : List ℕ) (e l w : ℕ) (h : Here f e l 0 3 w) where
 
   pub link_asked : (last from to mf mt me r : ℕ)
       → last ≡ latest (recent (from_of_link f e) l) → from ≡ from_of w → to ≡ port_of w
-      → mf ≡ number (recent (port_of_edge f) e) from → mt ≡ number (recent (port_of_edge f) e) to → me ≡ number (recent (to_of_link f e) l) to
+      → mf ≡ number (recent (port_of_edge f) e) from → mt ≡ number (recent (port_of_edge f) e) to
+      → me ≡ number (recent (to_of_link f e) l) to
       → r ≡ first_no (3 asks eqb (bits 27 24 w) 0
       ∷ 4 asks (leb 1 from && leb 1 to && ltb last from && not (eqb from to))
       ∷ 5 asks true ∷ 6 asks (eqb mf 0 && eqb mt 0 && eqb me 0) ∷ 7 asks ltb l 256 ∷ [])
@@ -110,7 +111,8 @@ module _ (f : List ℕ) (hw e l n at w size : ℕ) (hh : hw ≡ width_in f) (h :
 -- ---- question 2
 
 -- what the code tests of word 0
-pub started_is : (f : List ℕ) (hw w k v u n : ℕ) → w ≡ word_at f 0 → k ≡ kind_of w → v ≡ version_of w → u ≡ version hw → n ≡ count_of w
+pub started_is : (f : List ℕ) (hw w k v u n : ℕ) → w ≡ word_at f 0 → k ≡ kind_of w → v ≡ version_of w → u ≡ version hw
+    → n ≡ count_of w
     → (eqb k 1 && eqb v u && eqb n (words_in f)) ≡ started hw f
 unfolding started
 started_is f hw w k v u n h hk hv hu hn = rw (hk, hv, hu, hn, h)

@@ -21,7 +21,8 @@ clean_beside low high l =
 -- of the set from word k on, as it is read
 pub clean_halves : (w : ℕ) → Width w → (f : List ℕ) (k : ℕ)
     → clean w (set_from w f k) ≡ (tidy half (low_from w f k) && clean_high (high_from w f k))
-clean_halves w d f k = by_width (λ w. clean w (set_from w f k) ≡ (tidy half (low_from w f k) && clean_high (high_from w f k))) refl eight w d
+clean_halves w d f k = by_width (λ w. clean w (set_from w f k) ≡ (tidy half (low_from w f k) && clean_high (high_from w f k))) refl
+    eight w d
   where
     eight : clean 8 (set_from 8 f k) ≡ (tidy half (low_from 8 f k) && clean_high (high_from 8 f k))
     eight =

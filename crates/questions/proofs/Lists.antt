@@ -42,7 +42,8 @@ none_has g (suc n) p h i hi e = go (λ q j. none_has g n p q i j e) (eqb p (g n)
     go later false hb (no d) = later (simp hb at h) (omega arith)
 
 -- each above the latest before it: strictly rising
-pub rising : (g : ℕ → ℕ) (n : ℕ) → ((i : ℕ) → i < n → latest (recent g i) < g i) → (i j : ℕ) → i < j → j < n → g i < g j
+pub rising : (g : ℕ → ℕ) (n : ℕ) → ((i : ℕ) → i < n → latest (recent g i) < g i) → (i j : ℕ) → i < j → j < n
+    → g i < g j
 rising g n h i zero hij hj = absurd (omega arith)
 rising g n h i (suc j) hij hj = go (λ q. rising g n h i j q (omega arith)) (ℕ_discrete i j)
   where
@@ -54,11 +55,13 @@ rising g n h i (suc j) hij hj = go (λ q. rising g n h i j q (omega arith)) (ℕ
     go before (no d) = let a : g i < g j = before (omega arith) in let b = next in omega arith
 
 -- each the latest of fewer than so many with its port: at most so many with one port
-pub times_within : (g : ℕ → ℕ) (most n : ℕ) → ((i : ℕ) → i < n → times (g i) (recent g i) < most) → (p : ℕ) → times p (recent g n) ≤ most
+pub times_within : (g : ℕ → ℕ) (most n : ℕ) → ((i : ℕ) → i < n → times (g i) (recent g i) < most) → (p : ℕ)
+    → times p (recent g n) ≤ most
 times_within g most zero h p = omega arith
 times_within g most (suc n) h p = go (times_within g most n (λ i l. h i (omega arith)) p) (eqb p (g n)) refl
   where
-    go : times p (recent g n) ≤ most → (b : Bool) → eqb p (g n) ≡ b → pick b (times p (recent g n) + 1) (times p (recent g n)) ≤ most
+    go : times p (recent g n) ≤ most → (b : Bool) → eqb p (g n) ≡ b
+        → pick b (times p (recent g n) + 1) (times p (recent g n)) ≤ most
     go before true hb = rw (eqb-true p (g n) hb) (let a : times (g n) (recent g n) < most = h n (omega arith) in omega arith)
     go before false hb = before
 
@@ -83,7 +86,8 @@ pub number_none : (g : ℕ → ℕ) (n p : ℕ) → number (recent g n) p ≡ 0 
 number_none g n p h = none_has g n p (not-true (elem p (recent g n)) (elem_number p (recent g n) ∙ eq-eqb _ 0 h))
 
 -- where the ports are different, a record's port has its number
-pub number_is : (g : ℕ → ℕ) (n : ℕ) → ((i j : ℕ) → i < j → j < n → g i ≡ g j → ⊥) → (i : ℕ) → i < n → number (recent g n) (g i) ≡ suc i
+pub number_is : (g : ℕ → ℕ) (n : ℕ) → ((i j : ℕ) → i < j → j < n → g i ≡ g j → ⊥) → (i : ℕ) → i < n
+    → number (recent g n) (g i) ≡ suc i
 number_is g n d i l = go (number (recent g n) (g i)) refl
   where
     go : (m : ℕ) → number (recent g n) (g i) ≡ m → m ≡ suc i

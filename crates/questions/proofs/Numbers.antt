@@ -48,7 +48,8 @@ records_up_to (suc k) f s =
     or_else_up_to (asked f s) s.place _ (asked_up_to f s)
     (at_end (eqb (kind f s) 5) (records_up_to k f (passed f s)))
   where
-    at_end : (b : Bool) → NoUpTo7 (records k f (passed f s)) → NoUpTo7 (pick b (Fabric (shape_of (width_in f) s)) (records k f (passed f s)))
+    at_end : (b : Bool) → NoUpTo7 (records k f (passed f s))
+        → NoUpTo7 (pick b (Fabric (shape_of (width_in f) s)) (records k f (passed f s)))
     at_end true later = tt
     at_end false later = later
 

@@ -8,7 +8,8 @@ use lib.Dec.{ltb, leb, eqb}
 use borrow.Author.Tests.{ltb-true, leb-true, eqb-false, not-true}
 use Rattle.headers.specs.Sets.{writes}
 use Rattle.layout.specs.Words.{word_at, words_in, kind_of, transfer_of, port_of}
-use Rattle.layout.specs.Records.{width_in, admitted_at, edge_words, match_at, rewrite_at, entry_words, set_from, rewrite_from, place_of, place_in}
+use Rattle.layout.specs.Records.{width_in, admitted_at, edge_words, match_at, rewrite_at, entry_words, set_from, rewrite_from, place_of}
+use Rattle.layout.specs.Records.{place_in}
 use Rattle.layout.specs.Records.{port_of_edge, from_of_link, to_of_link, in_of_entry, recent}
 use Rattle.layout.specs.Limits.{most_edges, most_links, most_entries, most_at_port}
 use Rattle.layout.proofs.Words.{port_range, from_range}
@@ -31,7 +32,8 @@ pub yeses : (f : List ℕ) (s : Passed) → asked f s ≡ 0 → Yes f s
 unfolding asked
 yeses f s = go (in_order f s) (ports_right f s) (sets_tidy f s) (link_free f s) (within_limits f s) refl refl refl refl refl
   where
-    go : (a b c d x : Bool) → in_order f s ≡ a → ports_right f s ≡ b → sets_tidy f s ≡ c → link_free f s ≡ d → within_limits f s ≡ x
+    go : (a b c d x : Bool) → in_order f s ≡ a → ports_right f s ≡ b → sets_tidy f s ≡ c → link_free f s ≡ d
+        → within_limits f s ≡ x
         → first_no (3 asks a ∷ 4 asks b ∷ 5 asks c ∷ 6 asks d ∷ 7 asks x ∷ []) ≡ 0 → Yes f s
     go true true true true true ha hb hc hd hx z = record { order = ha; ports = hb; sets = hc; free = hd; limits = hx }
     go false b c d x ha hb hc hd hx z = absurd (omega arith)
@@ -138,7 +140,8 @@ pub record EntryIs (f : List ℕ) (e l n : ℕ) : Type 0 where
   pub limit : n < most_entries (width_in f)
   pub port_limit : times (in_of_entry f e l n) (recent (in_of_entry f e l) n) < most_at_port
 
-pub entry_is : (f : List ℕ) (e l n : ℕ) → kind_of (word_at f (place_in f e l n)) ≡ 4 → Yes f (passed_at f e l n) → EntryIs f e l n
+pub entry_is : (f : List ℕ) (e l n : ℕ) → kind_of (word_at f (place_in f e l n)) ≡ 4 → Yes f (passed_at f e l n)
+    → EntryIs f e l n
 unfolding ports_right sets_tidy within_limits passed_at
 entry_is f e l n k y =
     let w = width_in f in

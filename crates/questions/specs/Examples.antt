@@ -54,7 +54,8 @@ second a b c d =
     zero_bits file after_start && transfer_known file after_start
 
 -- no transfer, a copy and a swap, each with the highest out-port; the numbers 3 and 15
-transfers : (second 0 0 0x0f 0xff ∷ second 0x10 0 0x0f 0xff ∷ second 0x20 0 0x0f 0xff ∷ second 0x30 0 0 0 ∷ second 0xf0 0 0 0 ∷ [])
+transfers : (second 0 0 0x0f 0xff ∷ second 0x10 0 0x0f 0xff ∷ second 0x20 0 0x0f 0xff ∷ second 0x30 0 0 0 ∷ second 0xf0 0 0 0 ∷
+    [])
     ≡ true ∷ true ∷ true ∷ false ∷ false ∷ []
 unfolding word_at
 transfers = refl
@@ -77,7 +78,8 @@ spare : (clean 8 (caring 7 0xffffff00) ∷ clean 8 (caring 7 0x100) ∷ clean 8 
 spare = refl
 
 -- the same of the last four words by themselves; version 1 has no such bits
-spare_high : (clean_high (caring 3 0xffffff00) ∷ clean_high (caring 3 0x80) ∷ clean_high (caring 3 1) ∷ clean 4 (caring 3 0xff) ∷ [])
+spare_high : (clean_high (caring 3 0xffffff00) ∷ clean_high (caring 3 0x80) ∷ clean_high (caring 3 1) ∷ clean 4 (caring 3 0xff) ∷
+    [])
     ≡ true ∷ false ∷ false ∷ true ∷ []
 spare_high = refl
 
@@ -121,7 +123,8 @@ unfolding within_limits word_at width_in
 entries_512 = refl
 
 -- the 64th and the 65th entry of an in-port
-in_port_64 : (after 1 0x40 64 256 63 100 ∷ after 1 0x40 64 256 64 100 ∷ after 2 0x40 64 256 63 100 ∷ after 2 0x40 64 256 64 100 ∷ [])
+in_port_64 : (after 1 0x40 64 256 63 100 ∷ after 1 0x40 64 256 64 100 ∷ after 2 0x40 64 256 63 100 ∷ after 2 0x40 64 256 64 100 ∷
+    [])
     ≡ true ∷ false ∷ true ∷ false ∷ []
 unfolding within_limits word_at width_in
 in_port_64 = refl

@@ -1,7 +1,8 @@
 -- Questions 1 to 7 of document 01, "Questions asked in turn", as it asks them: the first that gets a no, with its number and place,
 -- or the fabric's shape. What came before a record is a plain state, `Passed`. Questions 1 and 2 go by the version of the call, the others
 -- by the file's (document 02, 2.6).
-use Rattle.std.specs.Prelude.{Bool, true, false, not, ◌&&◌, ◌||◌, List, [], ◌∷◌, ℕ, zero, suc, ◌+◌, ◌%◌, ltb, leb, eqb, length}
+use Rattle.std.specs.Prelude.{Bool, true, false, not, ◌&&◌, ◌||◌, List, [], ◌∷◌, ℕ, zero, suc, ◌+◌, ◌%◌, ltb, leb}
+use Rattle.std.specs.Prelude.{eqb, length}
 use Rattle.headers.specs.Bits.{word, keep_if}
 use Rattle.headers.specs.Sets.{Set, tidy, writes}
 use Rattle.layout.specs.Words.{word_at, words_in, bits, kind_of, version_of, count_of, transfer_of, port_of, from_of}
@@ -136,7 +137,8 @@ module _ (f : List ℕ) (s : Passed) where
   ports_right =
       by_kind kind
       (is_port (port_of first) && ltb (latest s.edges) (port_of first))
-      (is_port (from_of first) && is_port (port_of first) && ltb (latest s.froms) (from_of first) && not (eqb (from_of first) (port_of first)))
+      (is_port (from_of first) && is_port (port_of first) && ltb (latest s.froms) (from_of first) &&
+      not (eqb (from_of first) (port_of first)))
       (is_port (port_of first) && leb (port_of second) 4095 && not (eqb (port_of first) (port_of second)))
       true
 

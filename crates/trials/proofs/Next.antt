@@ -60,7 +60,8 @@ module _ (meets : ℕ → Bool) (budget : ℕ) where
       go : (t : Bool) → meets b ≡ t
           → (made + 1 + trials_of meets bs ≤ budget → tried meets budget bs (made + 1) ≡ after (head? (those meets bs))
           (made + 1 + trials_of meets bs))
-          → tried meets budget (b ∷ bs) made ≡ after (head? (keep_if (meets b) b (those meets bs))) (made + trials_of meets (b ∷ bs))
+          → tried meets budget (b ∷ bs) made ≡ after (head? (keep_if (meets b) b (those meets bs)))
+          (made + trials_of meets (b ∷ bs))
       go true e ih =
           let n = trials_met b bs made e in
           trial_met b bs made (lt-ltb made budget (omega arith)) e

@@ -18,7 +18,8 @@ pub record Halves (h : headers.WideHeader) : Type 0 where
   pub low : Words half h.low
   pub high : Words half h.high
 
-pub header_halves : (h : headers.WideHeader) → Is WideHeader.the_row h (val WideHeader.the_type header-laws.the_laws h ∷ []) → Halves h
+pub header_halves : (h : headers.WideHeader) → Is WideHeader.the_row h (val WideHeader.the_type header-laws.the_laws h ∷ [])
+    → Halves h
 header_halves h is = record {
   low = array_words 4 _ (search rules) (λ w. search rules);
   high = array_words 4 _ (search rules) (λ w. search rules);

@@ -195,10 +195,12 @@ module _ {x : List ℕ} {k w : ℕ} (stored : Stored x k w) where
         ap (no_bit wide_words) free_halves
         ∙ no_bit_beside half half (free half p (low_from w x k)) (free half q (high_from w x k)) refl
 
-    pub covers_halves : (overlaps wide_words (beside p q) (stored_at w x k) && no_bit wide_words (free wide_words (beside p q) (stored_at w x k)))
+    pub covers_halves :
+        (overlaps wide_words (beside p q) (stored_at w x k) && no_bit wide_words (free wide_words (beside p q) (stored_at w x k)))
         ≡ ((overlaps half p (low_from w x k) && no_bit half (free half p (low_from w x k)))
         && (overlaps half q (high_from w x k) && no_bit half (free half q (high_from w x k))))
-    covers_halves = ap₂ ◌&&◌ overlaps_halves none_free ∙ regroup (overlaps half p (low_from w x k)) (overlaps half q (high_from w x k)) _ _
+    covers_halves = ap₂ ◌&&◌ overlaps_halves none_free
+        ∙ regroup (overlaps half p (low_from w x k)) (overlaps half q (high_from w x k)) _ _
       where
         regroup : (a b c d : Bool) → ((a && b) && (c && d)) ≡ ((a && c) && (b && d))
         regroup true true c d = refl

@@ -53,7 +53,8 @@ of_chain t along = (next_in_chain (entries_few t.asked.fabric) along).of_chain
 
 -- what `descend` asks of a part whose trials ended, beside the measure
 ended_at : {f ask index : List ℕ} {d : ℕ} {path counters area : List ℕ} (t : Tracing f ask index d path counters area)
-    {x : ℕ} (q : ℕ) (p : Set) {j i : ℕ} → Next (in_port_of (fabric_in f)) (fabric_in f).entries x j i → {counters' : List ℕ} {r : ℕ}
+    {x : ℕ} (q : ℕ) (p : Set) {j i : ℕ} → Next (in_port_of (fabric_in f)) (fabric_in f).entries x j i
+    → {counters' : List ℕ} {r : ℕ}
     → NextMet (trials_from (wide_in f) (budget_of ask) q i p (get_or counters 0 0)) counters r counters'
     → x < 4096 → Tracing f ask index d path counters' area × (x < 4096 × Ended f ask x p counters' r)
 ended_at t q p along n l = (after_trials t _ q p along n, (l, part_ended t _ q p along n))
@@ -208,7 +209,8 @@ descend-returns-clause-traced t c =
 
 -- ---- `stop`
 
-module _ {f ask index : List ℕ} {place : ℕ} {s : Set} {d : ℕ} {path₀ counters₀ area₀ : List ℕ} {e : ℕ} {path counters area : List ℕ}
+module _ {f ask index : List ℕ} {place : ℕ} {s : Set} {d : ℕ} {path₀ counters₀ area₀ : List ℕ} {e : ℕ}
+    {path counters area : List ℕ}
     (at : AtEntry f ask index place s d path₀ counters₀ area₀ e path counters area) where
   -- the first entry of the chain of an in-port
   head_of : {port i : ℕ} → port < 4096 → i ≡ get_or index (first_in + port) 0

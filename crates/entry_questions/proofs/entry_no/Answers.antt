@@ -2,7 +2,6 @@
 use native.Mathlib.Omega.{arith}
 use Rattle.layout.proofs.Widths.{width_said}
 use Rattle.questions.proofs.Asked as asked
-use borrow.Author.Rules.{rules}
 use Rattle.entry_questions.proofs.entry_no.Goals as goal
 
 pub entry_words-requires : goal.entry_words-requires
@@ -25,7 +24,8 @@ clean_at-requires-2 c =
 
 pub returns : goal.returns
 returns c =
-    asked.entry_asked _ _ _ _ _ _ _ _ c.requires.hw_value c.requires.here c.requires.at_value c.entry_words.ensures (omega arith) _ _ _ _ _ _ _ _ _ _ _
+    asked.entry_asked _ _ _ _ _ _ _ _ c.requires.hw_value c.requires.here c.requires.at_value c.entry_words.ensures
+    (omega arith) _ _ _ _ _ _ _ _ _ _ _
     c.word-second.ensures c.port_of-port.ensures
     c.rank_of-zero.ensures c.transfer_of-known.ensures c.port_of.ensures
     c.clean_at.ensures c.rewrite_at.ensures c.clean_at-2.ensures

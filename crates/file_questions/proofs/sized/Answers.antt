@@ -1,5 +1,4 @@
 -- The code asks what `sized` says.
-use borrow.Author.Rules.{rules}
 use Rattle.questions.specs.Questions.{sized}
 use Rattle.file_questions.proofs.sized.Goals as goal
 

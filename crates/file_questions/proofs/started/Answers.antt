@@ -1,6 +1,5 @@
 -- The code asks what `started` says, of the word that it read.
 use Rattle.questions.proofs.Asked as asked
-use borrow.Author.Rules.{rules}
 use Rattle.file_questions.proofs.started.Goals as goal
 
 pub returns : goal.returns

@@ -18,7 +18,8 @@ use Rattle.input.proofs.Calls.{unmarked, marked, number_below, too_short, too_sh
 use Rattle.input.proofs.call.Goals as goal
 
 -- the number read is in the bits below the mark
-number_of_lem : (input : List ℕ) (x : ℕ) → x ≡ word_at input 0 → call_named (bits 30 0 (word_at input 0)) ≡ call_named (x % 2 ^ 31)
+number_of_lem : (input : List ℕ) (x : ℕ) → x ≡ word_at input 0 → call_named (bits 30 0 (word_at input 0)) ≡ call_named
+    (x % 2 ^ 31)
 number_of_lem input x read = ap call_named (sym (number_below (word_at input 0)) ∙ ap (λ (y : ℕ). y % 2 ^ 31) (sym read))
 
 -- the call that the number read names, made on the words read for the width that it marks, is the program's

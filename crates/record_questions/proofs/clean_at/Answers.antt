@@ -6,7 +6,6 @@ use Rattle.sets.specs.Forms.{set_of}
 use Rattle.sets.specs.declared.HeaderSet.{HeaderSet}
 use Rattle.questions.specs.Questions.{clean_high}
 use Rattle.questions.proofs.Clean.{clean_four, clean_halves}
-use borrow.Author.Rules.{rules}
 use Rattle.record_questions.proofs.clean_at.Goals as goal
 
 pub returns-then-hw-eq-HALF : goal.returns-then-hw-eq-HALF

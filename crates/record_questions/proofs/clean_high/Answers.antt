@@ -6,7 +6,6 @@ use native.Mathlib.Omega.{arith}
 use lib.Dec.{eqb}
 use Rattle.headers.specs.Bits.{word}
 use Rattle.layout.specs.Words.{bits}
-use borrow.Author.Rules.{rules}
 use Rattle.record_questions.proofs.clean_high.Goals as goal
 
 pub returns : goal.returns

@@ -2,7 +2,6 @@
 use native.Mathlib.Omega.{arith}
 use Rattle.layout.proofs.Widths.{width_said}
 use Rattle.questions.proofs.Asked as asked
-use borrow.Author.Rules.{rules}
 use Rattle.record_questions.proofs.edge_no.Goals as goal
 
 pub edge_words-requires : goal.edge_words-requires

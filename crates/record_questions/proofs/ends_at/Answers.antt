@@ -1,6 +1,5 @@
 -- At the last word the test is on that word; elsewhere `ends_at` is false.
 use borrow.Author.Tests.{eq-eqb, ne_eqb}
-use borrow.Author.Rules.{rules}
 use Rattle.record_questions.proofs.ends_at.Goals as goal
 
 pub returns-then-at-file : goal.returns-then-at-file

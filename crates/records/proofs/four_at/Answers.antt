@@ -1,6 +1,5 @@
 -- Four words that were read are four words of the file.
 use Rattle.layout.proofs.Words as laws
-use borrow.Author.Rules.{rules}
 use Rattle.records.proofs.four_at.Goals as goal
 
 pub returns : goal.returns

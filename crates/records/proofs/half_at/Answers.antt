@@ -1,5 +1,4 @@
 -- Care and value as they were read.
-use borrow.Author.Rules.{rules}
 use Rattle.records.proofs.half_at.Goals as goal
 
 pub returns : goal.returns

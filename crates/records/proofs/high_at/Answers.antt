@@ -1,6 +1,5 @@
 -- `high_at` meets its contract: wild words, or the half that was read.
 use mathlib.Core.Path.{◌∙◌}
-use borrow.Author.Rules.{rules}
 use borrow.Author.Tests.{eq-eqb, ne_eqb}
 use Rattle.records.proofs.high_at.Goals as goal
 

@@ -1,6 +1,5 @@
 -- Each part of the sum is at most the whole.
 use native.Mathlib.Omega.{arith}
-use borrow.Author.Rules.{rules}
 use Rattle.records.proofs.place.Goals as goal
 
 pub overflow_mul-result : goal.overflow_mul-result

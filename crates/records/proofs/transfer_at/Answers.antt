@@ -1,5 +1,4 @@
 -- `transfer_at` meets its contract: 0, 1, and else a swap.
-use borrow.Author.Rules.{rules}
 use Rattle.layout.proofs.Transfers.{else_swap}
 use Rattle.records.proofs.transfer_at.Goals as goal
 

@@ -1,5 +1,4 @@
 -- `width` meets its contract: two halves where the start says version 2.
-use borrow.Author.Rules.{rules}
 use borrow.Author.Tests.{eq-eqb, ne_eqb}
 use Rattle.layout.specs.Records.{width_in}
 use Rattle.records.proofs.width.Goals as goal

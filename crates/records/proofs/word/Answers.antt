@@ -1,7 +1,6 @@
 -- Each byte is below 256, so the sum fits; it is what `word_at` says.
 use native.Mathlib.Omega.{arith}
 use Rattle.layout.specs.Words.{word_at}
-use borrow.Author.Rules.{rules}
 use Rattle.records.proofs.word.Goals as goal
 
 pub returns : goal.returns

@@ -44,7 +44,8 @@ module _
 
     -- the number of the first no
     asked : {words : ℕ} {tidy all edge right : Bool} {no no-10 no-11 no-12 : ℕ} → tidy ≡ clean wide_words (wide_of set)
-        → all ≡ cares_for_all s.words own → edge ≡ (fabric_in f).is_edge start → words ≡ answer_words s.words → right ≡ limit_right limit
+        → all ≡ cares_for_all s.words own → edge ≡ (fabric_in f).is_edge start → words ≡ answer_words s.words
+        → right ≡ limit_right limit
         → no-12 ≡ pick (leb (4 * words) (length area)) 0 12 → no-11 ≡ pick edge no-12 11 → no-10 ≡ pick (tidy && all) no-11 10
         → no ≡ pick right no-10 9 → no ≡ first_no questions
     asked tidy all edge words right said-12 said-11 said-10 said =

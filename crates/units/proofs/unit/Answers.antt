@@ -1,7 +1,6 @@
 -- `unit` meets its contract.
 use native.Mathlib.Omega.{arith}
 use Rattle.units.proofs.Units.{unit_refused, unit_counted}
-use borrow.Author.Rules.{rules}
 use Rattle.units.proofs.unit.Goals as goal
 
 pub returns-then-budget-made : goal.returns-then-budget-made

@@ -13,11 +13,13 @@ use Rattle.calls.specs.Verdict.{verdict_words}
 use Rattle.verdict_call.proofs.put_isolated.Goals as goal
 
 -- the first words of 28 are those of a verdict
-isolated-words : (units n w : ℕ) → Width w → n ≡ answer_words w → take n (0 ∷ units ∷ replicate 26 0) ≡ verdict_words w (isolated units)
+isolated-words : (units n w : ℕ) → Width w → n ≡ answer_words w → take n (0 ∷ units ∷ replicate 26 0) ≡ verdict_words w
+    (isolated units)
 unfolding verdict_words
 isolated-words units n w width e =
     rw e
-    (by_width (λ w. take (answer_words w) (0 ∷ units ∷ replicate 26 0) ≡ 0 ∷ units ∷ replicate (answer_words w - 2) 0) refl refl w width)
+    (by_width (λ w. take (answer_words w) (0 ∷ units ∷ replicate 26 0) ≡ 0 ∷ units ∷ replicate (answer_words w - 2) 0) refl refl
+    w width)
 
 -- so many of 28 are written
 written_long : {n w : ℕ} (units : ℕ) → Width w → n ≡ answer_words w → length (take n (0 ∷ units ∷ replicate 26 0)) ≡ n

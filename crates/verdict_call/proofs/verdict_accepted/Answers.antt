@@ -106,7 +106,8 @@ module _ {f : List ℕ} {s : Shape} {q : Query} {area : List ℕ} {p : Passed} {
 
     room_left : 4 * answer_words s.words ≤ length last
     room_left =
-        omega (arith, x.room, ap length (area_is ∙ (verdict_isolated f q area (λ e. one (status_is ∙ e)) (λ e. two (status_is ∙ e))).1))
+        omega
+        (arith, x.room, ap length (area_is ∙ (verdict_isolated f q area (λ e. one (status_is ∙ e)) (λ e. two (status_is ∙ e))).1))
 
     isolated_answered : {r : ℕ} → r ≡ answer_words s.words * 256
         → {new : List ℕ} → new ≡ written_at 0 (verdict_words s.words (isolated p.made)) last

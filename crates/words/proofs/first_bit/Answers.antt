@@ -1,7 +1,7 @@
 -- The first word that is not 0 holds the first set bit, its highest.
 use Rattle.std.proofs.Common.{◌≡◌, ℕ, ◌+◌, ◌<◌, List, [], ◌∷◌, Fits, w32, sym, ap, ◌∙◌, eq-eqb, rules, arith}
 use borrow.Author.Count.{below_none, below_more}
-use Rattle.headers.specs.Bits.{word, Words, first_bit}
+use Rattle.headers.specs.Bits.{word, Words}
 use Rattle.headers.proofs.Positions.{every_of, array_words}
 use Rattle.headers.proofs.SetBits.{first_bit_in, first_bit_none}
 use Rattle.words.proofs.first_bit.Goals as goal

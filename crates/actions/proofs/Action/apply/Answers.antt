@@ -4,7 +4,6 @@ use mathlib.Core.Path.{◌∙◌, ap}
 use Prim.Native.Nat.{ℕ}
 use Rattle.headers.specs.Sets.{rewritten}
 use Rattle.actions.specs.Forms.{rewrite_of}
-use borrow.Author.Rules.{rules}
 use Rattle.actions.proofs.Action.apply.Goals as goal
 
 pub returns : goal.returns

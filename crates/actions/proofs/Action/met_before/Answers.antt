@@ -1,6 +1,5 @@
 -- `Action::met_before` meets its contract: the transfer undone, and then the match; 'empty' where one of them is.
 use mathlib.Core.Path.{◌∙◌}
-use borrow.Author.Rules.{rules}
 use borrow.Author.Tests.{not-true, not-false}
 use Rattle.headers.specs.Actions.{met_before}
 use Rattle.sets.proofs.Answers.{then_set, then_empty}

@@ -1,6 +1,5 @@
 -- `Action::undo` meets its contract: the rewrite undone, and then the transfer for the match; 'empty' where one of them is.
 use mathlib.Core.Path.{sym, ap, ◌∙◌}
-use borrow.Author.Rules.{rules}
 use borrow.Author.Tests.{not-true, not-false}
 use Rattle.sets.specs.Forms.{maybe_of}
 use Rattle.headers.proofs.Acting.{before_steps}

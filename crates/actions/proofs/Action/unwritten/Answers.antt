@@ -1,6 +1,5 @@
 -- `Action::unwritten` meets its contract: the test that it makes is the one that decides the undone set.
 use mathlib.Core.Path.{sym, ◌∙◌, ap}
-use borrow.Author.Rules.{rules}
 use Rattle.headers.specs.Sets.{undone, overlaps}
 use Rattle.sets.specs.Forms.{set_of}
 use Rattle.sets.specs.declared.HeaderSet.{HeaderSet}

@@ -1,6 +1,5 @@
 -- `HeaderSet::intersect` meets its contract: the test that it makes is the one that decides the intersection.
 use mathlib.Core.Path.{sym, ◌∙◌}
-use borrow.Author.Rules.{rules}
 use Rattle.headers.specs.Sets.{intersection}
 use Rattle.sets.proofs.Answers.{some_set, empty_set}
 use Rattle.sets.proofs.HeaderSet.intersect.Goals as goal

@@ -1,5 +1,4 @@
 -- No bit of the value is set outside care.
-use borrow.Author.Rules.{rules}
 use Rattle.sets.proofs.HeaderSet.is_tidy.Goals as goal
 
 pub returns : goal.returns

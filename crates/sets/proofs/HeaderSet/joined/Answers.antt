@@ -1,5 +1,4 @@
 -- Care and value, each word by word.
-use borrow.Author.Rules.{rules}
 use Rattle.sets.proofs.HeaderSet.joined.Goals as goal
 
 pub returns : goal.returns

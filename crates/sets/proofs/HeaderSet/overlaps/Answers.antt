@@ -1,5 +1,4 @@
 -- The values agree on the bits that both care for.
-use borrow.Author.Rules.{rules}
 use Rattle.sets.proofs.HeaderSet.overlaps.Goals as goal
 
 pub returns : goal.returns

@@ -1,5 +1,4 @@
 -- `HeaderSet::unlike` meets its contract: the bit is taken from b turned round.
-use borrow.Author.Rules.{rules}
 use Rattle.sets.proofs.HeaderSet.unlike.Goals as goal
 
 pub returns : goal.returns

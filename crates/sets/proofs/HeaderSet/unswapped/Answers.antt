@@ -1,5 +1,4 @@
 -- `HeaderSet::unswapped` meets its contract: care and value, both.
-use borrow.Author.Rules.{rules}
 use Rattle.sets.proofs.HeaderSet.unswapped.Goals as goal
 
 pub returns : goal.returns

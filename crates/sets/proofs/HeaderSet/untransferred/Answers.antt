@@ -1,6 +1,5 @@
 -- `HeaderSet::untransferred` meets its contract: each transfer has its own way back.
 use mathlib.Core.Bool.{true}
-use borrow.Author.Rules.{rules}
 use Rattle.sets.proofs.HeaderSet.untransferred.Goals as goal
 
 pub returns-in-Keep : goal.returns-in-Keep

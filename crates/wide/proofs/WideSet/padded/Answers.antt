@@ -1,6 +1,5 @@
 -- `WideSet::padded` meets its contract: the last four words are wild.
 use mathlib.Core.Path.{ap}
-use borrow.Author.Rules.{rules}
 use Rattle.headers.specs.Sets.{beside}
 use Rattle.sets.specs.Forms.{set_of}
 use Rattle.sets.specs.declared.HeaderSet.{HeaderSet}
