@@ -8,7 +8,7 @@ ghost use Rattle.sets.specs.Forms.{set_of, form_of, maybe_of};
 ghost use Rattle.actions.specs.Forms.{rewrite_of, act_of};
 
 use headers::Transfer;
-use sets::{HeaderSet, MaybeSet};
+use sets::HeaderSet;
 
 // What an entry does to a header: the transfer, and then masked bits become the value's.
 #[derive(Clone, Copy)]
@@ -34,6 +34,7 @@ impl Action {
     pub fn writes(self) -> HeaderSet
         ensures { result ≡ form_of (writes (rewrite_of self)) }
     {
+        // the check takes no array field straight into a literal
         let care = self.mask;
         let value = self.value;
         HeaderSet { care, value }
@@ -42,61 +43,40 @@ impl Action {
     pub fn apply(self, h: [u32; 4]) -> [u32; 4]
         ensures { result ≡ acted 4 (act_of self) h }
     {
-        let transfer = self.transfer;
-        let m = self.mask;
-        let v = self.value;
-        words::overwritten(m, v, words::transferred(transfer, h))
+        self.written(words::transferred(self.transfer, h))
     }
 
     // The words with masked bits as the value's.
     pub fn written(self, h: [u32; 4]) -> [u32; 4]
         ensures { result ≡ rewritten 4 (rewrite_of self) h }
     {
-        let m = self.mask;
-        let v = self.value;
-        words::overwritten(m, v, h)
+        words::overwritten(self.mask, self.value, h)
     }
 
     // The headers of a match that this action takes into t: what it does last is undone first.
-    pub fn undo(self, t: HeaderSet, matching: HeaderSet) -> MaybeSet
+    pub fn undo(self, t: HeaderSet, matching: HeaderSet) -> Option<HeaderSet>
         ensures { result ≡ maybe_of (before 4 (set_of matching) (act_of self) (set_of t)) }
     {
-        let unwritten = self.unwritten(t);
-        if !unwritten.some {
-            return unwritten;
-        }
-        let s = unwritten.set;
+        let s = self.unwritten(t)?;
         self.met_before(s, matching)
     }
 
     // The headers of a match that its transfer takes into s.
-    pub fn met_before(self, s: HeaderSet, matching: HeaderSet) -> MaybeSet
+    pub fn met_before(self, s: HeaderSet, matching: HeaderSet) -> Option<HeaderSet>
         ensures { result ≡ maybe_of (met_before 4 (set_of matching) self.transfer (set_of s)) }
     {
-        let transfer = self.transfer;
-        let untransferred = s.untransferred(transfer);
-        if !untransferred.some {
-            return untransferred;
-        }
-        let moved = untransferred.set;
+        let moved = s.untransferred(self.transfer)?;
         moved.intersect(matching)
     }
 
     // The headers that its rewrite takes into t.
-    pub fn unwritten(self, t: HeaderSet) -> MaybeSet
+    pub fn unwritten(self, t: HeaderSet) -> Option<HeaderSet>
         ensures { result ≡ maybe_of (undone 4 (rewrite_of self) (set_of t)) }
     {
         if t.overlaps(self.writes()) {
-            let m = self.mask;
-            MaybeSet {
-                some: true,
-                set: t.widened(m),
-            }
+            Some(t.widened(self.mask))
         } else {
-            MaybeSet {
-                some: false,
-                set: HeaderSet::all_wild(),
-            }
+            None
         }
     }
 }

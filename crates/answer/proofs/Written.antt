@@ -1,9 +1,10 @@
 -- Words written one after the other are written together. Assumes nothing.
 use mathlib.Core.List.{List, [], ◌∷◌, ◌++◌, append_assoc, append-nil}
 use mathlib.Core.Path.{◌≡◌, refl, sym, ap, ap₂, ◌∙◌, subst}
-use Prim.Native.Nat.{ℕ, suc, ◌+◌, ◌*◌, ◌/◌, ◌%◌, ◌≤◌, ◌<◌}
+use Prim.Native.Nat.{ℕ, suc, ◌+◌, ◌-◌, ◌*◌, ◌/◌, ◌%◌, ◌≤◌, ◌<◌}
 use native.Mathlib.Numerals.{add-one}
 use native.Mathlib.Omega.{arith}
+use borrow.Rule.Slice.PartMut.{put_mid, Post-is}
 use lib.ListN.{length, take, drop, set, get_or, length-append, length-drop, take-append-drop}
 use lib.Seq.{length-take-le, take_all, take_at, drop-drop, sets-eq, drop-append-add, take-suc}
 use Rattle.layout.specs.Records.{half, Width}
@@ -34,6 +35,16 @@ stored_word area at w room =
     let e : 4 * at + 4 ≡ 4 * (at + 1) = omega arith in
     rw (a, b, c, d) (sets-eq (w % 256 ∷ w / 256 % 256 ∷ w / 65536 % 256 ∷ w / 16777216 % 256 ∷ []) area (4 * at) (omega arith)
     ∙ rw e)
+
+-- the four bytes of a word, copied to their place
+pub copied_word : (area bytes : List ℕ) (at w : ℕ) → bytes ≡ bytes_of (w ∷ [])
+    → put_mid (4 * at) (4 * at + 4 - 4 * at) area bytes ≡ written_at at (w ∷ []) area
+unfolding written_at
+copied_word area bytes at w e =
+    let rest : 4 * at + 4 ≡ 4 * (at + 1) = omega arith in
+    ap₂ (λ (ys post : List ℕ). take (4 * at) area ++ (ys ++ post)) e
+    (Post-is (4 * at) (4 * at + 4) area (omega arith) ∙ ap (λ (k : ℕ). drop k area) rest)
+    ∙ sym (append_assoc (take (4 * at) area) (bytes_of (w ∷ [])) (drop (4 * (at + 1)) area))
 
 module _ (at : ℕ) (us vs area : List ℕ) (room : 4 * (at + length us) ≤ length area) where
   pub written_next : written_at (at + length us) vs (written_at at us area) ≡ written_at at (us ++ vs) area
@@ -96,9 +107,6 @@ written_three a b c area m n la lb room =
 
 -- the first w words of a header, its first four and then, if there are more, its last four
 module _ (at w : ℕ) (low high area : List ℕ) (d : Width w) (ll : length low ≡ half) (lh : length high ≡ half) where
-  pub written_low : w ≡ half → written_at at low area ≡ written_at at (take w (low ++ high)) area
-  written_low e = ap (λ (l : List ℕ). written_at at l area) (sym (take_at low high w (ll ∙ sym e)))
-
   pub written_both : 4 * (at + w) ≤ length area → (w ≡ half → ⊥)
       → written_at (at + half) high (written_at at low area) ≡ written_at at (take w (low ++ high)) area
   written_both room n =

@@ -3,6 +3,7 @@ mod Paths
 pub mod Tracings
 pub mod Places
 pub mod Trying
-mod Carves
 mod Descents
+mod Carves
+mod Takes
 mod Stops

@@ -3,7 +3,7 @@
 use mathlib.Core.Bool.{Bool, true, false, cond}
 use mathlib.Core.List.{List, [], ◌∷◌}
 use mathlib.Core.Path.{◌≡◌, refl, ap, ◌∙◌}
-use Prim.Native.Nat.{ℕ, zero, suc, ◌+◌, ◌-◌, ◌≤◌, ◌<◌}
+use Prim.Native.Nat.{ℕ, zero, suc, ◌+◌, ◌-◌, ◌<◌}
 use native.Mathlib.Omega.{arith}
 use borrow.Author.Tests.{ltb-true, le-leb, lt-leb}
 use lib.Dec.{leb, ltb}
@@ -14,6 +14,9 @@ use Rattle.file.specs.Accepted.{HasEdge}
 use Rattle.forwarding.specs.Trace.{Event, find, stop, from_port, at_in_port}
 use Rattle.model.specs.Model.{AFabric, shape_in, under, edge_at, link_ending, fabric_of, fabric_in, wide_in}
 use Rattle.index.specs.Index.{place_at}
+use Rattle.index.specs.Places.{number_of_place, IsFormed}
+use Rattle.index.specs.declared.Place.{Place}
+use Rattle.index.specs.declared.Place.TheVariants.{Nowhere, Port, Edge}
 use Rattle.entries.proofs.Entries.{shape_is}
 use Rattle.backtrace.specs.Cycle.{IsPlace, events_at}
 
@@ -38,17 +41,25 @@ module _ {f : List ℕ} (a : AFabric f) (x : ℕ) where
   abbrev place_if : Bool → ℕ
   place_if b = cond b (4095 + edge) ((fabric_in f).link_from x)
 
-  pub place_is_one : IsPlace f (place_at f x)
+  place_has_edge : (k : ℕ) → 4096 + k ≡ place_at f x → HasEdge f k
   unfolding place_at fabric_in fabric_of
-  place_is_one = record { edge = go (ltb 0 edge) refl }
+  place_has_edge k h = go (ltb 0 edge) refl h
     where
-      go : (b : Bool) → ltb 0 edge ≡ b → 4096 ≤ place_if b → HasEdge f (place_if b - 4096)
-      go true e l = record {
-        shape = a.shape;
-        is_accepted = a.is_accepted;
-        below = rw (← shape_is a) (edge_has (ltb-true 0 edge e)).0;
-      }
-      go false e l = absurd (omega (arith, link_low))
+      go : (b : Bool) → ltb 0 edge ≡ b → 4096 + k ≡ place_if b → HasEdge f k
+      go true e h =
+          let is : 4095 + edge - 4096 ≡ k = omega arith in
+          record {
+            shape = a.shape;
+            is_accepted = a.is_accepted;
+            below = rw (← shape_is a) (rw is at (edge_has (ltb-true 0 edge e)).0);
+          }
+      go false e h = absurd (omega (arith, link_low))
+
+  -- what the index has for the in-port is a place
+  pub place_found : (place : Place) → IsFormed place → number_of_place place ≡ place_at f x → IsPlace f place
+  place_found Nowhere l h = tt
+  place_found (Port y) l h = l
+  place_found (Edge k) l h = place_has_edge k h
 
   -- a part that came to stand there is a part at the in-port
   pub place_events : (hops : ℕ) (path : List ℕ) (t : Set)

@@ -4,8 +4,9 @@ use mathlib.Core.List.{List, [], ◌∷◌, flat_map, append-nil}
 use mathlib.Core.Path.{◌≡◌, refl, sym, ap, ◌∙◌}
 use Prim.Native.Nat.{ℕ, zero, suc, ◌+◌, ◌-◌, ◌≤◌}
 use native.Mathlib.Omega.{arith}
+use borrow.Author.Tests.{le-ltb}
 use lib.Dec.{eqb, leb, ltb}
-use lib.ListN.{get_or}
+use Rattle.std.specs.Prelude.{Option, Result, Ok, Err}
 use Rattle.headers.specs.Bits.{positions, keep_if, those}
 use Rattle.headers.specs.Sets.{Set}
 use Rattle.headers.specs.Carving.{parts, carve}
@@ -14,16 +15,20 @@ use Rattle.forwarding.specs.Trace.{Find, Event, unit, carved}
 use Rattle.model.specs.Model.{fabric_in, wide_in}
 use Rattle.index.specs.Chains.{no_entry}
 use Rattle.index.proofs.Chained.{Next}
+use Rattle.index.specs.Places.{chain_number}
 use Rattle.entries.specs.Entries.{ranked_from}
-use Rattle.entries.proofs.Entries.{entries_few}
 use Rattle.entries.proofs.Ranked.{ranked_next}
 use Rattle.events.specs.Play.{World, Played, and_then, unit_made, make_unit, step, play}
-use Rattle.events.specs.Asked.{budget_of, world_of, found_by}
+use Rattle.events.specs.Asked.{budget_of, world_of, played_of, found_by}
+use Rattle.events.specs.declared.Ask.{Ask}
+use Rattle.events.specs.declared.Counters.{Counters}
+use Rattle.events.specs.declared.Halt.{Halt}
 use Rattle.trials.specs.Trials.{Ending, met, past, used, ending_at, Tried, tried, meets, trials_from, NextMet}
 use Rattle.trials.proofs.Next.{trial_refused, trial_met, trial_passed}
-use Rattle.trials.proofs.Found.{ending_found, entry_found, budget_found_used, found_later, units_within}
-use Rattle.backtrace.specs.Cycle.{Tracing, Traced, Ended, survivor_events, events_from, events_cut, events_after}
+use Rattle.trials.proofs.Found.{ending_found, entry_found, found_later, ending_used, budget_halts, budget_found_used, units_within}
+use Rattle.backtrace.specs.Cycle.{Traced, Ended, survivor_events, events_from, events_cut, events_after}
 use Rattle.backtrace.proofs.Steps.{run}
+use Rattle.backtrace.proofs.Tracings.{InHand}
 
 -- ---- over any fabric
 
@@ -118,40 +123,34 @@ module _ (f : Fabric) (budget : ℕ) (found : Find → World → Played) (next :
   pub trials_played : (j : ℕ) (w : World) → Goes (ranked_from f x q j) w
   trials_played j w = goes_from (f.entries - j) j refl w
 
--- ---- in the trace: entry i of the chain is the first from j on at in-port x, and the part's trials from there ended at r
+-- ---- in the trace: entry i of the chain is the first from j on at in-port x, and the part's trials from there were answered
 
-module _ {f ask index : List ℕ} {d : ℕ} {path counters₀ area : List ℕ} (t : Tracing f ask index d path counters₀ area)
-    (x q : ℕ) (p : Set) {j i : ℕ} (along : Next (in_port_of (fabric_in f)) (fabric_in f).entries x j i) {counters : List ℕ} {r : ℕ}
-    (n : NextMet (trials_from (wide_in f) (budget_of ask) q i p (get_or counters₀ 0 0)) counters₀ r counters) where
-  few : (fabric_in f).entries ≤ no_entry
-  few = entries_few t.asked.fabric
-
+module _ {f : List ℕ} {ask : Ask} {index : List ℕ} {d : ℕ} {path : List ℕ} {counters₀ : Counters} {area : List ℕ}
+    (t : InHand f ask index d path counters₀ area)
+    (x q : ℕ) (p : Set) {j i : ℕ} (along : Next (in_port_of (fabric_in f)) (fabric_in f).entries x j i) where
   -- the trials of the entries from j on
   abbrev these : Tried
-  these = tried (meets (wide_in f) p) (budget_of ask) (ranked_from (wide_in f) x q j) (get_or counters₀ 0 0)
+  these = tried (meets (wide_in f) p) (budget_of ask) (ranked_from (wide_in f) x q j) counters₀.made
 
-  of_these : NextMet these counters₀ r counters
-  of_these = rw (ranked_next (wide_in f) q along) n
+  -- their answer
+  abbrev Answered : Result (Option ℕ) Halt → Counters → Type 0
+  Answered r counters = NextMet (trials_from (wide_in f) (budget_of ask) q i p counters₀.made) counters₀ r counters
 
-  pub part_ended : Ended f ask x p counters r
-  part_ended = record {
-    entry_met = λ l. (entry_found (wide_in f) p (budget_of ask) x q few j _ of_these l).is;
-    budget_used = budget_found_used (wide_in f) p (budget_of ask) x q few j _ of_these;
-  }
+  of_these : {r : Result (Option ℕ) Halt} {counters : Counters} → Answered r counters → NextMet these counters₀ r counters
+  of_these n = rw (ranked_next (wide_in f) q along) n
 
-  pub part_later : j ≤ no_entry → j ≤ r
-  part_later = found_later (wide_in f) p (budget_of ask) x q few j _ of_these
-
-  pub after_trials : Tracing f ask index d path counters area
-  after_trials = record {
+  pub after_trials : {r : Result (Option ℕ) Halt} {counters : Counters} → Answered r counters → InHand f ask index d path counters area
+  after_trials n = record {
     asked = t.asked;
     indexed = t.indexed;
-    above_floor = t.above_floor;
-    on_path = t.on_path;
-    room = record {
-      counters_long = n.counters_long;
-      made_within = units_within (wide_in f) p (budget_of ask) x q few j _ of_these t.room.made_within;
-      verdict_room = t.room.verdict_room;
+    tracing = record {
+      above_floor = t.tracing.above_floor;
+      on_path = t.tracing.on_path;
+      room = record {
+        made_within =
+            units_within (wide_in f) p (budget_of ask) x q j counters₀.made (of_these n) t.tracing.room.made_within;
+        verdict_room = t.tracing.room.verdict_room;
+      };
     };
   }
 
@@ -163,21 +162,50 @@ module _ {f ask index : List ℕ} {d : ℕ} {path counters₀ area : List ℕ} (
   left_is hops way used = refl
 
   -- what is then left of the part is played: so is the part
-  pub part_traced : (hops : ℕ) (way : List ℕ) {r' : ℕ} {counters' area' : List ℕ}
-      → Traced f ask (events_after f x q (ending_at r) hops way p) counters area r' counters' area'
-      → Traced f ask (events_from f x q j hops way p) counters₀ area r' counters' area'
+  left_played : {r : Result (Option ℕ) Halt} {counters : Counters} → Answered r counters → (hops : ℕ) (way : List ℕ)
+      → run f ask (events_after f x q these.ending hops way p) counters area
+      ≡ run f ask (events_from f x q j hops way p) counters₀ area
   unfolding events_from
-  part_traced hops way w = record {
-    played =
-        w.played
-        ∙ ap (λ (o : Ending). run f ask (events_after f x q o hops way p) counters area)
-        (ending_found (wide_in f) p (budget_of ask) x q few j _ of_these)
-        ∙ ap (λ (es : List Event). run f ask es counters area) (left_is hops way these.ending)
-        ∙ ap (play (budget_of ask) (found_by f ask)
-        (left_by (wide_in f) (budget_of ask) (found_by f ask) (survivor_events f x hops way) x q p these.ending)) world_is
-        ∙ trials_played (wide_in f) (budget_of ask) (found_by f ask) (survivor_events f x hops way) x q p j (world_of counters₀ area);
-    counters_long = w.counters_long;
-  }
+  left_played {counters = counters} n hops way =
+      ap (λ (es : List Event). run f ask es counters area) (left_is hops way these.ending)
+      ∙ ap (play (budget_of ask) (found_by f ask)
+      (left_by (wide_in f) (budget_of ask) (found_by f ask) (survivor_events f x hops way) x q p these.ending)) world_is
+      ∙ trials_played (wide_in f) (budget_of ask) (found_by f ask) (survivor_events f x hops way) x q p j (world_of counters₀ area)
     where
-      world_is : world_of counters area ≡ record { made = these.made; words = get_or counters₀ 1 0; area = area }
-      world_is = λ i. record { made = of_these.units_are i; words = of_these.words_stay i; area = area }
+      world_is : world_of counters area ≡ record { made = these.made; words = counters₀.words; area = area }
+      world_is = λ i. record { made = (of_these n).units_are i; words = (of_these n).words_stay i; area = area }
+
+  module _ {o : Option ℕ} {counters : Counters} (n : Answered (Ok o) counters) where
+    pub part_ended : Ended f x p o
+    part_ended b h = (entry_found (wide_in f) p (budget_of ask) x q j counters₀.made (of_these n) b h).is
+
+    pub part_later : j ≤ no_entry → j ≤ chain_number o
+    part_later = found_later (wide_in f) p (budget_of ask) x q j counters₀.made (of_these n)
+
+    pub part_traced : (hops : ℕ) (way : List ℕ) {r : Result (Unit {0}) Halt} {counters' : Counters} {area' : List ℕ}
+        → Traced f ask (events_after f x q (ending_at o) hops way p) counters area r counters' area'
+        → Traced f ask (events_from f x q j hops way p) counters₀ area r counters' area'
+    part_traced hops way w = record {
+      played =
+          w.played
+          ∙ ap (λ (o : Ending). run f ask (events_after f x q o hops way p) counters area)
+          (ending_found (wide_in f) p (budget_of ask) x q j counters₀.made (of_these n))
+          ∙ left_played n hops way;
+    }
+
+  -- the budget has no unit for the next trial
+  pub part_halted : {h : Halt} {counters : Counters} → Answered (Err h) counters → (hops : ℕ) (way : List ℕ)
+      → Traced f ask (events_from f x q j hops way p) counters₀ area (Err h) counters area
+  unfolding play step make_unit
+  part_halted {h} {counters} n hops way =
+      let is = budget_halts (wide_in f) p (budget_of ask) x q j counters₀.made (of_these n) in
+      let ends = ending_used (wide_in f) p (budget_of ask) x q j counters₀.made (of_these n) in
+      let all = budget_found_used (wide_in f) p (budget_of ask) x q j counters₀.made (of_these n) in
+      record {
+        played =
+            ap (λ (h : Halt). played_of {T = Unit {0}} (Err h) counters area) is
+            ∙ ap (λ (t : Bool). and_then (unit_made t (world_of counters area)) (play (budget_of ask) (found_by f ask) []))
+            (sym (le-ltb counters.made (budget_of ask) all))
+            ∙ ap (λ (o : Ending). run f ask (events_after f x q o hops way p) counters area) (sym ends)
+            ∙ left_played n hops way;
+      }

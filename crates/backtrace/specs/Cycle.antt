@@ -1,25 +1,28 @@
 -- What the code of the trace promises: `stop` and `carve`, which call each other, and their leaves. Assumes nothing.
-use Rattle.std.specs.Prelude.{cond, ◌≡◌, ℕ, suc, ◌-◌, ◌≤◌, ◌<◌, leb, length, get_or, drop}
+use Rattle.std.specs.Prelude.{cond, ◌≡◌, ℕ, suc, ◌-◌, ◌≤◌, ◌<◌, Result, Option, Some, leb, length, drop}
 use mathlib.Core.List.{List, [], ◌∷◌, flat_map}
 use Rattle.headers.specs.Sets.{Set}
 use Rattle.headers.specs.Carving.{carve}
 use Rattle.layout.specs.Records.{port_of_edge}
 use Rattle.file.specs.Accepted.{HasEdge}
+use Rattle.forwarding.specs.Fabric.{in_port_of}
+use Rattle.forwarding.specs.BackTrace.{beaters}
 use Rattle.forwarding.specs.Trace.{Event, unit, find, stop, from_port, carved, at_in_port}
 use Rattle.model.specs.Model.{wide_in}
-use Rattle.index.specs.Chains.{no_entry}
-use Rattle.index.specs.Index.{Index}
+use Rattle.index.specs.declared.Place.{Place}
+use Rattle.index.specs.declared.Place.TheVariants.{Nowhere, Port, Edge}
 use Rattle.entries.specs.Entries.{ranked_from}
 use Rattle.events.specs.Play.{play}
-use Rattle.events.specs.Asked.{Asked, Path, Room, budget_of, floor_of, world_of, played_of, found_by}
+use Rattle.events.specs.Asked.{Path, Room, budget_of, floor_of, world_of, played_of, found_by}
+use Rattle.events.specs.declared.Ask.{Ask}
+use Rattle.events.specs.declared.Counters.{Counters}
+use Rattle.events.specs.declared.Halt.{Halt}
 use Rattle.trials.specs.Trials.{Ending, met, past, used, Met}
 
 -- ---- what the trace has in hand
 
 -- with d places of the path free; the hop limit leaves as many free as `ask` says, at least
-pub record Tracing (f ask index : List ℕ) (d : ℕ) (path counters area : List ℕ) : Type 0 where
-  pub asked : Asked f ask
-  pub indexed : Index f index
+pub record Tracing (ask : Ask) (d : ℕ) (path : List ℕ) (counters : Counters) (area : List ℕ) : Type 0 where
   pub above_floor : floor_of ask ≤ d
   pub on_path : Path path d
   pub room : Room ask counters area
@@ -27,10 +30,9 @@ pub record Tracing (f ask index : List ℕ) (d : ℕ) (path counters area : List
 -- ---- what a part of the trace leaves
 
 -- its events were played
-pub record Traced (f ask : List ℕ) (events : List Event) (counters₀ area₀ : List ℕ) (r : ℕ)
-    (counters area : List ℕ) : Type 0 where
-  pub played : played_of r counters area ≡ play (budget_of ask) (found_by f ask) events (world_of counters₀ area₀)
-  pub counters_long : length counters ≡ 2
+pub record Traced (f : List ℕ) (ask : Ask) (events : List Event) (counters₀ : Counters) (area₀ : List ℕ)
+    (ended : Result (Unit {0}) Halt) (counters : Counters) (area : List ℕ) : Type 0 where
+  pub played : played_of ended counters area ≡ play (budget_of ask) (found_by f ask) events (world_of counters₀ area₀)
 
 -- the path from place d on is as it was
 pub record Kept (d : ℕ) (path₀ path : List ℕ) : Type 0 where
@@ -39,11 +41,13 @@ pub record Kept (d : ℕ) (path₀ path : List ℕ) : Type 0 where
 
 -- ---- where a part stands
 
--- 4,096 + k is edge k; a lower place is the from-port of a link, or 0
-pub record IsPlace (f : List ℕ) (place : ℕ) : Type 0 where
-  pub edge : 4096 ≤ place → HasEdge f (place - 4096)
+-- nowhere, at the from-port of a link, or at an edge of the file
+abbrev pub IsPlace : List ℕ → Place → Type 0
+IsPlace f Nowhere = Unit {0}
+IsPlace f (Port y) = (0 < y) × (y < 4096)
+IsPlace f (Edge k) = HasEdge f k
 
--- the events of a part that came to stand at a place, with so many hops left
+-- the events of a part that came to stand at a place, by its number, with so many hops left
 unfoldable pub events_at : List ℕ → ℕ → Set → ℕ → List ℕ → List Event
 events_at f place t hops path =
     cond (leb 4096 place)
@@ -70,7 +74,10 @@ events_after f x q (met b) hops path p = events_cut f x q b hops path p
 events_after f x q past hops path p = survivor_events f x hops path p
 events_after f x q used hops path p = unit ∷ []
 
--- r is the number of the part's trials' ending: a lower one than 'none' is an entry that it meets, with a higher one the budget is used
-pub record Ended (f ask : List ℕ) (x : ℕ) (p : Set) (counters : List ℕ) (r : ℕ) : Type 0 where
-  pub entry_met : r < no_entry → Met (wide_in f) x p r
-  pub budget_used : no_entry < r → budget_of ask ≤ get_or counters 0 0
+-- the events of what entry e takes back, by the entries that beat it, with so many hops left at its in-port
+unfoldable pub taken_back : List ℕ → ℕ → ℕ → List ℕ → Set → List Event
+taken_back f e hops path = carved (wide_in f) (survivor_events f (in_port_of (wide_in f) e) hops (e ∷ path)) (beaters (wide_in f) e)
+
+-- the part's trials ended at an entry that it meets, or at none
+abbrev pub Ended : List ℕ → ℕ → Set → Option ℕ → Type 0
+Ended f x p o = (b : ℕ) → o ≡ Some b → Met (wide_in f) x p b

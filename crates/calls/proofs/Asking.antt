@@ -11,6 +11,9 @@ use Rattle.headers.specs.Sets.{Set}
 use Rattle.headers.proofs.Booleans.{and_fst, and_snd}
 use Rattle.answer.specs.Answer.{Outcome, outcome, refused, answered, written_at, bytes_of}
 use Rattle.questions.specs.Questions.{pick, clean, Question, first_no}
+use Rattle.questions.specs.Refusals.{number}
+use Rattle.questions.specs.declared.Refusal.{Refusal}
+use Rattle.questions.specs.declared.Refusal.TheVariants as Refusals
 use Rattle.queries.specs.Queries.{limit_right, trace_questions}
 use Rattle.calls.specs.Questions.{or_refused}
 
@@ -30,6 +33,53 @@ all_yes (q ∷ qs) n e = go q.yes refl e (all_yes qs n.1)
     go : (b : Bool) → q.yes ≡ b → pick b (first_no qs) q.number ≡ 0 → (first_no qs ≡ 0 → Yeses qs) → Yeses (q ∷ qs)
     go true d e ih = (d, ih e)
     go false d e ih = absurd (let p = n.0 in omega arith)
+
+-- ---- what the code says of one question
+
+pub number_low : (r : Refusal) → 0 < number r
+number_low Refusals.Size = omega arith
+number_low Refusals.Start = omega arith
+number_low Refusals.Order = omega arith
+number_low Refusals.Ports = omega arith
+number_low Refusals.Tidiness = omega arith
+number_low Refusals.Ends = omega arith
+number_low Refusals.Limits = omega arith
+number_low Refusals.Target = omega arith
+number_low Refusals.HopLimit = omega arith
+number_low Refusals.AskedSet = omega arith
+number_low Refusals.StartPort = omega arith
+number_low Refusals.Room = omega arith
+number_low Refusals.Budget = omega arith
+number_low Refusals.Input = omega arith
+
+pub number_high : (r : Refusal) → number r ≤ 14
+number_high Refusals.Size = omega arith
+number_high Refusals.Start = omega arith
+number_high Refusals.Order = omega arith
+number_high Refusals.Ports = omega arith
+number_high Refusals.Tidiness = omega arith
+number_high Refusals.Ends = omega arith
+number_high Refusals.Limits = omega arith
+number_high Refusals.Target = omega arith
+number_high Refusals.HopLimit = omega arith
+number_high Refusals.AskedSet = omega arith
+number_high Refusals.StartPort = omega arith
+number_high Refusals.Room = omega arith
+number_high Refusals.Budget = omega arith
+number_high Refusals.Input = omega arith
+
+-- no refusal has the number 0
+pub some_number : {code : ℕ} (r : Refusal) → code ≡ number r → code ≡ 0 → ⊥
+some_number r e z = omega (arith, number_low r)
+
+-- the first no is past a question that got a yes, and at one that got a no
+pub past : (yes : Bool) (n : ℕ) {said later : ℕ} → 0 < n → 0 ≡ pick yes 0 n → said ≡ later → said ≡ pick yes later n
+past true n l e d = d
+past false n l e d = absurd (omega arith)
+
+pub stopped : (yes : Bool) (n : ℕ) (later : ℕ) (r : Refusal) → number r ≡ pick yes 0 n → number r ≡ pick yes later n
+stopped false n later r e = e
+stopped true n later r e = absurd (some_number r refl e)
 
 -- ---- what verdict and list ask first
 

@@ -19,7 +19,7 @@ use Rattle.forwarding.specs.BackTrace.{back, beaters}
 use Rattle.forwarding.specs.Trace.{Find, Event, unit, find, carved, from_port, at_in_port, taken_up, stop}
 use Rattle.forwarding.specs.Trace.{is_in_port, in_ports, entries_in, lost_at, lost_trace, list_trace, units, finds}
 use Rattle.forwarding.proofs.Budget.{ends_within_lem}
-use Rattle.layout.specs.declared.Shape.{Shape}
+use Rattle.layout.specs.Shape.{Shape}
 use Rattle.layout.proofs.Widths.{width_is}
 use Rattle.file.specs.Accepted.{Accepted}
 use Rattle.model.specs.Model.{fabric_in}
@@ -29,8 +29,7 @@ use Rattle.model.proofs.Soundness.{fabric_sound}
 use Rattle.events.specs.Play.{Played, find_words, list_words}
 use Rattle.events.proofs.ListPlayed.{finds_in, words_of, ListedAll, listed_all, listed_stops}
 use Rattle.events.proofs.Widened.{finds_own}
-use Rattle.events.specs.Pass.{begin, played_then}
-use Rattle.events.specs.declared.Passed.{Passed}
+use Rattle.events.specs.Pass.{begin}
 use Rattle.queries.specs.Queries.{list_target, trace_questions}
 use Rattle.calls.specs.Questions.{Query, or_refused}
 use Rattle.calls.specs.List.{list_asked, words_asked, list_questions, list_pass_of}
@@ -255,11 +254,10 @@ module _ (f : List ℕ) (s : Shape) (ok : Accepted f s) (q : Query) (short : q.l
   own = finds_own 8 (fabric_in f) (fabric_sound f s ok) at_most_eight q.limit q.port q.asked formed
 
   module _
-      (area : List ℕ) (p : Passed) (after : List ℕ)
-      (e : played_then p after ≡ list_pass_of n (fabric_in f) q area)
+      (area : List ℕ) (p : Played) (e : p ≡ list_pass_of n (fabric_in f) q area)
     where
       -- a pass within the budget counts all words, and writes them if there is room for all
-      pub all_listed : within_budget f q ≡ true → ListedAll (begin area) (finds es) (played_then p after)
+      pub all_listed : within_budget f q ≡ true → ListedAll (begin area) (finds es) p
       all_listed within =
           subst (ListedAll (begin area) (finds es)) (sym e)
           (subst (λ (ds : List Find). ListedAll (begin area) ds (list_pass_of n (fabric_in f) q area)) own

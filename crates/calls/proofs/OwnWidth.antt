@@ -16,7 +16,7 @@ use Rattle.headers.proofs.Padded.{tidy_padded}
 use Rattle.answer.specs.Answer.{answer_words}
 use Rattle.layout.specs.Words.{bits}
 use Rattle.layout.specs.Records.{half, Width, width_in}
-use Rattle.layout.specs.declared.Shape.{Shape}
+use Rattle.layout.specs.Shape.{Shape}
 use Rattle.layout.proofs.Widths.{width_said}
 use Rattle.wide.specs.Forms.{wide_words, wide_of, widest, narrowed, Fits}
 use Rattle.wide.specs.declared.WideSet.{WideSet}

@@ -1,4 +1,5 @@
 pub mod Questions
+pub mod Codes
 pub mod Run
 pub mod Verdict
 pub mod List

@@ -2,7 +2,7 @@
 use Rattle.std.specs.Prelude.{List, [], ◌∷◌, ◌++◌, ℕ, ◌*◌, leb, length}
 use Rattle.answer.specs.Answer.{Outcome}
 use Rattle.questions.specs.Questions.{accepted, Question, ◌asks◌}
-use Rattle.questions.specs.declared.Read.{Read}
+use Rattle.questions.specs.Read.{Read}
 use Rattle.forwarding.specs.Fabric as Forwarding
 use Rattle.forwarding.specs.Trace.{Event, list_trace, units, finds}
 use Rattle.events.specs.Play.{Played, play, listed, list_words}

@@ -3,8 +3,8 @@ use Rattle.std.specs.Prelude.{Bool, List, ℕ, ◌*◌, leb, eqb, length}
 use Rattle.headers.specs.Sets.{Set}
 use Rattle.answer.specs.Answer.{answer_words, Outcome, refused, answered}
 use Rattle.questions.specs.Questions.{pick, Question, first_no}
-use Rattle.questions.specs.declared.Read.{Read}
-use Rattle.questions.specs.declared.Read.TheVariants as Reads
+use Rattle.questions.specs.Read.{Read}
+use Rattle.questions.specs.Read as Reads
 use Rattle.model.specs.Model.{fabric_in}
 use Rattle.forwarding.specs.Fabric.{Fabric}
 

@@ -2,7 +2,7 @@
 use Rattle.std.specs.Prelude.{◌&&◌, List, [], ◌∷◌, ℕ}
 use Rattle.answer.specs.Answer.{Outcome}
 use Rattle.questions.specs.Questions.{clean, accepted, Question, ◌asks◌}
-use Rattle.questions.specs.declared.Read.{Read}
+use Rattle.questions.specs.Read.{Read}
 use Rattle.forwarding.specs.Fabric as Forwarding
 use Rattle.forwarding.specs.Run.{Packet, run}
 use Rattle.journey.specs.Journey.{packet_words}

@@ -2,7 +2,7 @@
 use Rattle.std.specs.Prelude.{List, [], ◌∷◌, ◌++◌, ℕ, ◌-◌, leb, replicate}
 use Rattle.answer.specs.Answer.{answer_words, Outcome}
 use Rattle.questions.specs.Questions.{accepted, Question, ◌asks◌}
-use Rattle.questions.specs.declared.Read.{Read}
+use Rattle.questions.specs.Read.{Read}
 use Rattle.forwarding.specs.Fabric as Forwarding
 use Rattle.forwarding.specs.Trace.{Event, trace}
 use Rattle.forwarding.specs.Verdict.{Verdict, isolated, reached, units_in, verdict_on}

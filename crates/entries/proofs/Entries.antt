@@ -10,7 +10,7 @@ use Rattle.headers.specs.Actions.{padded_act, before}
 use Rattle.headers.proofs.Padded.{well_formed_padded}
 use Rattle.layout.specs.Words.{bytes_from}
 use Rattle.layout.specs.Records.{width_in, match_at, entry_words, entry_in, entry_priority, place_of, EntryLong}
-use Rattle.layout.specs.declared.Shape.{Shape}
+use Rattle.layout.specs.Shape.{Shape}
 use Rattle.layout.proofs.Widths.{width_is}
 use Rattle.wide.specs.Forms.{wide_words, widest, stored_at}
 use Rattle.file.proofs.Accepted.{few_entries, entry_inside, entry_of}

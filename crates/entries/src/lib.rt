@@ -1,86 +1,128 @@
 // An entry of an accepted file: its own bytes, and the headers that it takes back to. What is promised stands in specs/Entries.antt.
 #![tactic(auto)]
 
-ghost use Rattle.std.specs.Prelude.{◌≡◌, ◌≤◌, ◌<◌, length};
+ghost use Rattle.std.specs.Prelude.{◌≡◌, ◌<◌, ◌≤◌, length};
 ghost use Rattle.headers.specs.Sets.{overlaps, intersection, undone};
 ghost use Rattle.headers.specs.Actions.{met_before};
 ghost use Rattle.layout.specs.Records.{match_at, rewrite_at, entry_transfer, EntryLong};
+ghost use Rattle.layout.specs.Versions.{header_words};
 ghost use Rattle.wide.specs.Forms.{wide_words, wide_of, maybe_wide_of, stored_at, rewrite_stored};
-ghost use Rattle.file.specs.Accepted.{Accepted};
 ghost use Rattle.model.specs.Model.{fabric_in, wide_in, entries_at};
 ghost use Rattle.entries.specs.Entries.{EntriesFrom, IsEntry, keeps};
 
+use file::Fabric;
 use headers::Transfer;
-use layout::Shape;
+use layout::Version;
 use records::MATCH;
-use wide::{MaybeWide, WideSet};
+use stored::StoredSet;
+use wide::WideSet;
 
 // ---- one entry
 
 // The byte at which the entries begin.
-pub fn entries_at(file: &[u8], shape: Shape) -> u32
-    requires { Accepted file.now shape }
-    ensures { result ≡ entries_at file.now }
+pub fn entries_at(fabric: &Fabric) -> u32
+    ensures { result ≡ entries_at fabric.now.file.now }
 {
-    (4 * records::place(shape.words, shape.edges, shape.links, 0)) as u32
+    let counts = fabric.counts;
+    (4 * records::place(counts.version, counts.edges, counts.links, 0)) as u32
 }
 
-// Entry e's own bytes of the file, the entries beginning at byte `base`, with headers of w words.
-pub fn entry_at<'a>(file: &'a [u8], base: usize, w: usize, e: usize) -> &'a [u8]
-    requires entries_from { EntriesFrom file.now base w }
+// An entry's own bytes.
+#[derive(Clone, Copy)]
+pub struct Entry<'a> {
+    pub bytes: &'a [u8],
+    pub version: Version,
+    pub ghost long: { EntryLong (header_words version) bytes.now },
+}
+
+// Entry e of a file of this version, the entries beginning at byte `base`. They come one by one, since `trials` names the version as a
+// constant.
+pub fn entry_at<'a>(file: &'a [u8], base: usize, version: Version, e: usize) -> Entry<'a>
+    requires entries_from { EntriesFrom file.now base (header_words version) }
     requires e_bound { e < (fabric_in file.now).entries }
-    ensures { IsEntry file.now e result.now }
+    ensures entry { IsEntry file.now e result.bytes.now }
+    ensures same_version { result.version ≡ version }
 {
-    let size = 4 * records::entry_words(w);
+    let size = 4 * records::entry_words(version);
     let a = base + e * size;
-    &file[a..a + size]
+    Entry {
+        bytes: &file[a..a + size],
+        version,
+    }
 }
 
 // Does the match of entry e hold a header of p?
-pub fn meets(file: &[u8], base: usize, w: usize, e: usize, p: WideSet) -> bool
-    requires entries_from { EntriesFrom file.now base w }
+pub fn meets(file: &[u8], base: usize, version: Version, e: usize, p: WideSet) -> bool
+    requires entries_from { EntriesFrom file.now base (header_words version) }
     requires e_bound { e < (fabric_in file.now).entries }
     ensures { result ≡ overlaps wide_words (wide_of p) ((wide_in file.now).entry e).matches }
 {
-    stored::meets(entry_at(file, base, w, e), MATCH, w, p)
+    entry_at(file, base, version, e).matches().meets(p)
 }
 
-// ---- taken back, in two steps
-
-// What entry x's rewrite makes into headers of t.
-pub fn unwritten(x: &[u8], w: usize, t: WideSet) -> MaybeWide
-    requires { EntryLong w x.now }
-    ensures { maybe_wide_of result ≡ undone wide_words (rewrite_stored w x.now (rewrite_at w)) (wide_of t) }
+// Does an entry of these bytes neither copy nor swap addresses? By each transfer's name, so that a further one has to say it too.
+pub fn keeps(entry: &[u8]) -> bool
+    requires { 8 ≤ length entry.now }
+    ensures { result ≡ keeps (entry_transfer entry.now) }
 {
-    stored::unwritten(x, records::rewrite_at(w), w, t)
-}
-
-// Does entry x neither copy nor swap addresses?
-pub fn keeps(x: &[u8]) -> bool
-    requires { 8 ≤ length x.now }
-    ensures { result ≡ keeps (entry_transfer x.now) }
-{
-    let transfer = records::transfer(x);
-    match transfer {
+    match records::transfer(entry) {
         Transfer::Keep => true,
         Transfer::Copy => false,
         Transfer::Swap => false,
     }
 }
 
-// The headers of s in entry x's match.
-pub fn met(x: &[u8], w: usize, s: WideSet) -> MaybeWide
-    requires { EntryLong w x.now }
-    ensures { maybe_wide_of result ≡ intersection wide_words (wide_of s) (stored_at w x.now match_at) }
-{
-    stored::met(x, MATCH, w, s)
-}
+impl<'a> Entry<'a> {
+    // The headers that it may take.
+    pub fn matches(&self) -> StoredSet<'a>
+        ensures bytes { result.bytes.now ≡ self.now.bytes.now }
+        ensures at { result.at ≡ match_at }
+        ensures same_version { result.version ≡ self.now.version }
+    {
+        StoredSet {
+            bytes: self.bytes,
+            at: MATCH,
+            version: self.version,
+        }
+    }
 
-// The headers in entry x's match that its transfer takes into s.
-pub fn met_before(x: &[u8], w: usize, s: WideSet) -> MaybeWide
-    requires { EntryLong w x.now }
-    ensures { maybe_wide_of result
-        ≡ met_before wide_words (stored_at w x.now match_at) (entry_transfer x.now) (wide_of s) }
-{
-    stored::met_before(x, MATCH, w, records::transfer(x), s)
+    // What it writes.
+    pub fn rewrite(&self) -> StoredSet<'a>
+        ensures bytes { result.bytes.now ≡ self.now.bytes.now }
+        ensures at { result.at ≡ rewrite_at (header_words self.now.version) }
+        ensures same_version { result.version ≡ self.now.version }
+    {
+        StoredSet {
+            bytes: self.bytes,
+            at: records::rewrite_at(self.version),
+            version: self.version,
+        }
+    }
+
+    // ---- taken back, in two steps
+
+    // What its rewrite makes into headers of t.
+    pub fn unwritten(&self, t: WideSet) -> Option<WideSet>
+        ensures { let w = header_words self.now.version in
+            maybe_wide_of result ≡ undone wide_words (rewrite_stored w self.now.bytes.now (rewrite_at w)) (wide_of t) }
+    {
+        self.rewrite().unwritten(t)
+    }
+
+    // The headers of s in its match.
+    pub fn met(&self, s: WideSet) -> Option<WideSet>
+        ensures { maybe_wide_of result
+            ≡ intersection wide_words (wide_of s) (stored_at (header_words self.now.version) self.now.bytes.now match_at) }
+    {
+        self.matches().intersect(s)
+    }
+
+    // The headers in its match that its transfer takes into s.
+    pub fn met_before(&self, s: WideSet) -> Option<WideSet>
+        ensures { maybe_wide_of result
+            ≡ met_before wide_words (stored_at (header_words self.now.version) self.now.bytes.now match_at)
+            (entry_transfer self.now.bytes.now) (wide_of s) }
+    {
+        self.matches().met_before(records::transfer(self.bytes), s)
+    }
 }

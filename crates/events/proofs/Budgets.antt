@@ -14,9 +14,10 @@ use Rattle.layout.specs.Records.{width_in}
 use Rattle.model.specs.Model.{wide_in}
 use Rattle.events.specs.Play.{World, Played, next_if, unit_made, make_unit, step, play, listed, judged, judged_by}
 use Rattle.events.specs.Asked.{mode_of, target_of, found_by}
+use Rattle.events.specs.declared.Ask.{Ask}
 
 -- what is done with a find makes no unit
-pub found_makes_none : (f ask : List ℕ) (d : Find) (w : World) → (found_by f ask d w).world.made ≡ w.made
+pub found_makes_none : (f : List ℕ) (ask : Ask) (d : Find) (w : World) → (found_by f ask d w).world.made ≡ w.made
 unfolding found_by listed judged
 found_makes_none f ask d w = by (eqb (mode_of ask) 3)
   where

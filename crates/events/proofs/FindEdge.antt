@@ -5,7 +5,7 @@ use Prim.Native.Nat.{ℕ, suc, ◌*◌}
 use lib.ListN.{length}
 use Rattle.headers.specs.Sets.{Set, all_wild}
 use Rattle.layout.specs.Records.{width_in, admitted_at, edge_words, edge_group, edge_admitted, port_of_edge, edge_bytes, recent}
-use Rattle.layout.specs.declared.Shape.{Shape}
+use Rattle.layout.specs.Shape.{Shape}
 use Rattle.layout.proofs.Widths.{width_is}
 use Rattle.wide.specs.Forms.{widest, stored_at}
 use Rattle.questions.specs.Tables.{number}

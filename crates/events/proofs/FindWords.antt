@@ -2,7 +2,7 @@
 use mathlib.Core.List.{List, [], ◌∷◌, ◌++◌, map}
 use mathlib.Core.Path.{◌≡◌, ap, ap₂, ◌∙◌}
 use Prim.Native.Nat.{ℕ, ◌+◌, ◌-◌, ◌*◌, ◌^◌, ◌≤◌, ◌<◌}
-use lib.ListN.{length, get_or, take, drop, replicate, length-append, length-drop, length-map, drop_of_length-le}
+use lib.ListN.{length, get_or, take, drop, replicate, length-append, length-map, drop_of_length-le}
 use lib.Seq.{drop-cons, take-append-add, length-take-le}
 use native.Mathlib.Numerals.{add-one}
 use native.Mathlib.Omega.{arith}
@@ -11,7 +11,7 @@ use Rattle.layout.specs.Records.{half, Width, set_words}
 use Rattle.answer.specs.Answer.{written_at, sixteen}
 use Rattle.answer.proofs.Written.{written_next, written_none}
 use Rattle.events.specs.Play.{find_words}
-use Rattle.events.specs.Asked.{Path, find_at}
+use Rattle.events.specs.Asked.{Way, find_at}
 
 -- words that are written where others end are written with them
 pub written_both : (at : ℕ) (us vs area : List ℕ) {place : ℕ} {now next : List ℕ}
@@ -46,32 +46,22 @@ pub entries_end : (at i : ℕ) (path area : List ℕ) → length path ≤ i → 
     → written_at at (entry_words (drop i path)) area ≡ area
 entries_end at i path area past room = rw (drop_of_length-le path past) (written_none at area room)
 
--- ---- the path of a find
+-- ---- the way of a find
 
-module _ {path : List ℕ} {d : ℕ} (is-path : Path path d) where
-  -- a hop for each entry
-  pub hops_are : length (drop d path) ≡ 16 - d
-  hops_are = length-drop d path ∙ ap (λ (n : ℕ). n - d) is-path.long
-
-  pub entry_words_are : length (entry_words (drop d path)) ≡ 16 - d
-  entry_words_are = length-map (drop d path) (λ (e : ℕ). 7 * 2 ^ 28 + e) ∙ hops_are
+module _ {way : List ℕ} (is-way : Way way) where
+  pub entry_words_are : length (entry_words way) ≡ length way
+  entry_words_are = length-map way (λ (e : ℕ). 7 * 2 ^ 28 + e)
 
   -- a word, one for each entry, care and value of w words each
   pub find_words_are : (f : List ℕ) (k w : ℕ) (s : Set) → length s.care ≡ w → length s.value ≡ w
-      → length (find_words (find_at f k path d s)) ≡ 17 - d + set_words w
+      → length (find_words (find_at f k way s)) ≡ 1 + length way + set_words w
   unfolding find_words
   find_words_are f k w s care value =
-      omega (
-        arith,
-        length-append (entry_words (drop d path)) (s.care ++ s.value),
-        length-append s.care s.value,
-        entry_words_are,
-        is-path.within,
-      )
+      omega (arith, length-append (entry_words way) (s.care ++ s.value), length-append s.care s.value, entry_words_are)
 
   -- "16, unused ones 0"
-  pub sixteen_are : sixteen (drop d path) ≡ drop d path ++ take d (replicate 16 0)
+  pub sixteen_are : sixteen way ≡ way ++ take (16 - length way) (replicate 16 0)
   unfolding sixteen
   sixteen_are =
-      let e : 16 ≡ length (drop d path) + d = omega (arith, hops_are, is-path.within) in
-      ap (λ (n : ℕ). take n (drop d path ++ replicate 16 0)) e ∙ take-append-add (drop d path) (replicate 16 0) d
+      let e : 16 ≡ length way + (16 - length way) = omega (arith, is-way.long) in
+      ap (λ (n : ℕ). take n (way ++ replicate 16 0)) e ∙ take-append-add way (replicate 16 0) (16 - length way)

@@ -1,9 +1,12 @@
 -- The words of a find (A13) and of 'reached' (A9), computed: port, hops and entries differ, so that no two can be changed about. Assumes
 -- nothing.
-use Rattle.std.specs.Prelude.{[], ◌∷◌, ◌++◌, ◌≡◌, refl, replicate}
+use Rattle.std.specs.Prelude.{[], ◌∷◌, ◌++◌, ◌≡◌, refl, ℕ, replicate, Ok, Err}
 use Rattle.answer.specs.Answer.{sixteen}
 use Rattle.forwarding.specs.Trace.{Find}
 use Rattle.events.specs.Play.{find_words, narrow_find, list_words, reached_words}
+use Rattle.events.specs.Asked.{mode_number, status_of}
+use Rattle.events.specs.declared.Mode.TheVariants as Modes
+use Rattle.events.specs.declared.Halt.TheVariants.{BudgetUsed, Reached}
 
 -- port 12, three hops by entries 5, 4 and 2
 abbrev a_find : Find
@@ -42,3 +45,11 @@ reached_words_lem : reached_words 7 12 (5 ∷ 4 ∷ 2 ∷ []) (1 ∷ 6 ∷ 8 ∷
     ≡ 1 ∷ 7 ∷ 12 ∷ 3 ∷ 1 ∷ 6 ∷ 8 ∷ 9 ∷ 5 ∷ 4 ∷ 2 ∷ replicate 13 0
 unfolding sixteen reached_words
 reached_words_lem = refl
+
+-- the list and the verdict
+mode_numbers : (mode_number Modes.List ∷ mode_number Modes.Judge ∷ []) ≡ 2 ∷ 3 ∷ []
+mode_numbers = refl
+
+-- through, the budget used, and the verdict stops
+statuses : (status_of {T = ℕ} (Ok 5) ∷ status_of {T = ℕ} (Err BudgetUsed) ∷ status_of {T = ℕ} (Err Reached) ∷ []) ≡ 0 ∷ 1 ∷ 2 ∷ []
+statuses = refl

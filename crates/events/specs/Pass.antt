@@ -4,7 +4,7 @@ use Rattle.headers.specs.Sets.{Set}
 use Rattle.forwarding.specs.Trace.{trace}
 use Rattle.model.specs.Model.{wide_in}
 use Rattle.events.specs.Play.{World, Played, play}
-use Rattle.events.specs.Asked.{by_mode}
+use Rattle.events.specs.Asked.{by_mode, played_of}
 use Rattle.events.specs.declared.Passed.{Passed}
 
 -- nothing is made or counted yet
@@ -12,7 +12,7 @@ abbrev pub begin : List ℕ → World
 begin area = record { made = 0; words = 0; area = area }
 
 abbrev pub played_then : Passed → List ℕ → Played
-played_then p area = record { status = p.status; world = record { made = p.made; words = p.words; area = area } }
+played_then p area = played_of p.ended p.counters area
 
 -- the events of the back-trace of a set of eight words, played in a mode
 abbrev pub pass_of : List ℕ → ℕ → ℕ → ℕ → ℕ → Set → List ℕ → Played

@@ -1,32 +1,59 @@
-// Where numbers stand in what the code of the trace is handed (specs/Asked.antt). No code: what is done with an event of the back-trace is
-// in specs/Play.antt, what follows from it in proofs/, and the code that does it in `units`, `listing` and `finds`.
+// What a trace is asked, what it counts, what it finds and how it ends. No code: what is done with an event of the back-trace is in
+// specs/Play.antt, what follows from it in proofs/, and the code that does it in `units`, `listing` and `finds`.
 #![tactic(auto)]
 
-// Where numbers stand in `ask`.
-pub const BUDGET: usize = 0;
+use layout::Version;
+use wide::WideSet;
 
-pub const MODE: usize = 1;
-
-pub const FLOOR: usize = 2;
-
-pub const GROUP: usize = 4;
-
-pub const BASE: usize = 5;
-
-pub const WIDTH: usize = 6;
-
-// What is done with the finds: they are listed, or judged for the verdict.
-pub const LIST: u32 = 2;
-
-pub const JUDGE: u32 = 3;
-
-// The places of the path: the entries of a find stand in places d to 15.
+// The places of the path: a find's way is its entries from some place on. A path is an array of so many, as nothing is allocated.
 pub const PLACES: usize = 16;
 
-// How a pass ended (0 through, 1 the budget was used, 2 the verdict stops), the units made and the words of the finds.
+// What is done with the finds: they are listed, or judged for the verdict.
+#[derive(Clone, Copy, PartialEq, Eq)]
+pub enum Mode {
+    List,
+    Judge,
+}
+
+// Why a trace ends before it is through: the budget is used, or the verdict is reached.
+#[derive(Clone, Copy, PartialEq, Eq)]
+pub enum Halt {
+    BudgetUsed,
+    Reached,
+}
+
+// The units made, and the words of the finds.
 #[derive(Clone, Copy)]
-pub struct Passed {
-    pub status: u32,
+pub struct Counters {
     pub made: u64,
     pub words: u64,
+}
+
+// How a pass ended, and what it counted.
+#[derive(Clone, Copy)]
+pub struct Passed {
+    pub ended: Result<(), Halt>,
+    pub counters: Counters,
+}
+
+// What a trace is asked, and what it knows of the file. The floor is 16 less the hop limit: with d places of the path free, d less this
+// many hops are left. The group is the target's, and the base is the byte at which the entries begin.
+#[derive(Clone, Copy)]
+pub struct Ask {
+    pub budget: u32,
+    pub mode: Mode,
+    pub floor: usize,
+    pub target: u32,
+    pub group: u32,
+    pub base: usize,
+    pub version: Version,
+}
+
+// A find: the edge by its number, the headers, and the entries on the way from there to the target. The way is a part of the path, which
+// changes from level to level: that its entries fit is asked where they are written.
+#[derive(Clone, Copy)]
+pub struct Find<'a> {
+    pub edge: usize,
+    pub set: WideSet,
+    pub way: &'a [u32],
 }

@@ -7,8 +7,8 @@ use lib.Dec.{leb}
 use lib.ListN.{length}
 use Rattle.answer.specs.Answer.{Outcome, refused, answered}
 use Rattle.questions.specs.Questions.{accepted, shape, first_no, ◌asks◌}
-use Rattle.questions.specs.declared.Read.{Read}
-use Rattle.questions.specs.declared.Read.TheVariants as Reads
+use Rattle.questions.specs.Read.{Read}
+use Rattle.questions.specs.Read as Reads
 use Rattle.forwarding.specs.Fabric.{Fabric}
 use Rattle.forwarding.specs.Examples.{tp_dst}
 use Rattle.forwarding.specs.Trace.{Event, in_ports, lost_at, lost_trace, stop, units, finds}

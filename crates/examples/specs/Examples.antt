@@ -5,7 +5,7 @@ use Rattle.headers.specs.Sets.{Set, all_wild}
 use Rattle.headers.specs.Actions.{Act}
 use Rattle.answer.specs.Answer.{Outcome, bytes_of, refused, answered}
 use Rattle.questions.specs.Questions.{shape, accepted}
-use Rattle.questions.specs.declared.Read.TheVariants.{Fabric}
+use Rattle.questions.specs.Read.{Fabric}
 use Rattle.forwarding.specs.BackTrace.{back}
 use Rattle.forwarding.specs.Examples.{header, tp_dst, set_tp_dst, linked, entry_of}
 use Rattle.forwarding.specs.Fabric as Forwarding

@@ -2,7 +2,7 @@
 use Rattle.std.specs.Prelude.{List, [], ◌∷◌, ◌++◌, ◌≡◌, ℕ, length}
 use Rattle.answer.specs.Answer.{bytes_of, refused, answered}
 use Rattle.questions.specs.Questions.{shape, accepted}
-use Rattle.questions.specs.declared.Read.TheVariants.{Fabric}
+use Rattle.questions.specs.Read.{Fabric}
 use Rattle.forwarding.specs.Examples.{header, tp_dst}
 use Rattle.calls.specs.Questions.{Query, query}
 use Rattle.calls.specs.Verdict.{verdict_call}

@@ -7,10 +7,10 @@ use native.Mathlib.Omega.{arith}
 use lib.Dec.{eqb-suc-zero}
 use Rattle.answer.specs.Answer.{Outcome, refused, answered}
 use Rattle.layout.specs.Records.{Width}
-use Rattle.layout.specs.declared.Shape.{Shape}
+use Rattle.layout.specs.Shape.{Shape}
 use Rattle.questions.specs.Questions.{accepted, first_no}
-use Rattle.questions.specs.declared.Read.{Read}
-use Rattle.questions.specs.declared.Read.TheVariants.{Fabric, No}
+use Rattle.questions.specs.Read.{Read}
+use Rattle.questions.specs.Read.{Fabric, No}
 use Rattle.questions.proofs.Numbers.{UpTo, first_no_up_to, refused_number}
 use Rattle.forwarding.specs.Fabric as Forwarding
 use Rattle.model.specs.Model.{fabric_in}

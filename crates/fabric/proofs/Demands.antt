@@ -15,10 +15,10 @@ use Rattle.headers.proofs.Booleans.{and_fst}
 use Rattle.headers.proofs.Members.{lowest_member, lowest_fits}
 use Rattle.answer.specs.Answer.{Outcome, refused, answered, bytes_of}
 use Rattle.layout.specs.Words.{words_from}
-use Rattle.layout.specs.declared.Shape.{Shape}
+use Rattle.layout.specs.Shape.{Shape}
 use Rattle.questions.specs.Questions.{clean, accepted}
-use Rattle.questions.specs.declared.Read.{Read}
-use Rattle.questions.specs.declared.Read.TheVariants as Reads
+use Rattle.questions.specs.Read.{Read}
+use Rattle.questions.specs.Read as Reads
 use Rattle.file.specs.Accepted.{Accepted}
 use Rattle.file.proofs.Accepted.{accepted_own}
 use Rattle.file.proofs.Sound.{accepted_width}

@@ -7,7 +7,7 @@ use native.Mathlib.Omega.{arith}
 use lib.ListN.{length, length-reverse}
 use Rattle.headers.specs.Bits.{Words}
 use Rattle.answer.specs.Answer.{answered, sixteen}
-use Rattle.layout.specs.declared.Shape.{Shape}
+use Rattle.layout.specs.Shape.{Shape}
 use Rattle.file.specs.Accepted.{Accepted}
 use Rattle.forwarding.specs.Fabric.{Fabric}
 use Rattle.forwarding.specs.Run.{Packet, left, dropped, missed, travelling, tied, fate_of, port_of, header_of, taken_by, entries_taken}

@@ -9,9 +9,9 @@ use Rattle.headers.specs.Sets.{Header, Set, contains, WellFormed}
 use Rattle.answer.specs.Answer.{answer_words, Outcome, refused, answered}
 use Rattle.layout.specs.Words.{bits, word_at, words_from}
 use Rattle.layout.specs.Records.{Width, set_words}
-use Rattle.layout.specs.declared.Shape.{Shape}
+use Rattle.layout.specs.Shape.{Shape}
 use Rattle.questions.specs.Questions.{accepted, first_no}
-use Rattle.questions.specs.declared.Read.TheVariants.{Fabric, No}
+use Rattle.questions.specs.Read.{Fabric, No}
 use Rattle.forwarding.specs.Fabric as Forwarding
 use Rattle.forwarding.specs.Fabric.{in_port_of, applied}
 use Rattle.forwarding.specs.Run.{Packet, takes, run, fate_of, port_of, header_of, entries_taken}

@@ -1,4 +1,5 @@
-// What the runtime's host links: the calls of `fabric`, exported. A host that links the archive has these six symbols.
+// What the runtime's host links: `fabric::make` for each call and version, exported. A host that links the archive has these six symbols.
+// C takes no generic function and no set, so each call and version is one of its own, on numbers.
 #![tactic(auto)]
 
 ghost use Rattle.std.specs.Prelude.{◌≡◌, [], ◌∷◌};
@@ -7,6 +8,10 @@ ghost use Rattle.calls.specs.Questions.{query};
 ghost use Rattle.calls.specs.Verdict.{verdict_call};
 ghost use Rattle.calls.specs.List.{list_call};
 ghost use Rattle.calls.specs.Run.{run_call};
+
+use fabric::Call;
+use sets::HeaderSet;
+use wide::WideSet;
 
 // The call verdict on a file of version 1: the file, the area lent and words 1 to 11 of the query.
 #[unsafe(no_mangle)]
@@ -32,10 +37,11 @@ pub extern "C" fn fabric_verdict(
         }))
         area.old }
 {
-    fabric::fabric_verdict(
-        file, area, target, limit, budget, care0, care1, care2, care3, value0, value1, value2,
-        value3,
-    )
+    let asked = HeaderSet {
+        care: [care0, care1, care2, care3],
+        value: [value0, value1, value2, value3],
+    };
+    fabric::make(Call::Verdict, file, area, target, limit, budget, asked)
 }
 
 // The call verdict on a file of version 2: the file, the area lent and words 1 to 19 of the query.
@@ -70,10 +76,17 @@ pub extern "C" fn fabric_verdict_v2(
         }))
         area.old }
 {
-    fabric::fabric_verdict_v2(
-        file, area, target, limit, budget, care0, care1, care2, care3, care4, care5, care6, care7,
-        value0, value1, value2, value3, value4, value5, value6, value7,
-    )
+    let wide = WideSet {
+        low: HeaderSet {
+            care: [care0, care1, care2, care3],
+            value: [value0, value1, value2, value3],
+        },
+        high: HeaderSet {
+            care: [care4, care5, care6, care7],
+            value: [value4, value5, value6, value7],
+        },
+    };
+    fabric::make(Call::Verdict, file, area, target, limit, budget, wide)
 }
 
 // The call list on a file of version 1: the file, the area lent and words 1 to 11 of the query.
@@ -100,10 +113,11 @@ pub extern "C" fn fabric_list(
         }))
         area.old }
 {
-    fabric::fabric_list(
-        file, area, target, limit, budget, care0, care1, care2, care3, value0, value1, value2,
-        value3,
-    )
+    let asked = HeaderSet {
+        care: [care0, care1, care2, care3],
+        value: [value0, value1, value2, value3],
+    };
+    fabric::make(Call::List, file, area, target, limit, budget, asked)
 }
 
 // The call list on a file of version 2: the file, the area lent and words 1 to 19 of the query.
@@ -138,10 +152,17 @@ pub extern "C" fn fabric_list_v2(
         }))
         area.old }
 {
-    fabric::fabric_list_v2(
-        file, area, target, limit, budget, care0, care1, care2, care3, care4, care5, care6, care7,
-        value0, value1, value2, value3, value4, value5, value6, value7,
-    )
+    let wide = WideSet {
+        low: HeaderSet {
+            care: [care0, care1, care2, care3],
+            value: [value0, value1, value2, value3],
+        },
+        high: HeaderSet {
+            care: [care4, care5, care6, care7],
+            value: [value4, value5, value6, value7],
+        },
+    };
+    fabric::make(Call::List, file, area, target, limit, budget, wide)
 }
 
 // The call run on a file of version 1: the file, the area lent and words 1 to 11 of the query.
@@ -168,10 +189,11 @@ pub extern "C" fn fabric_run(
         }))
         area.old }
 {
-    fabric::fabric_run(
-        file, area, start, limit, budget, care0, care1, care2, care3, value0, value1, value2,
-        value3,
-    )
+    let asked = HeaderSet {
+        care: [care0, care1, care2, care3],
+        value: [value0, value1, value2, value3],
+    };
+    fabric::make(Call::Run, file, area, start, limit, budget, asked)
 }
 
 // The call run on a file of version 2: the file, the area lent and words 1 to 19 of the query.
@@ -206,8 +228,15 @@ pub extern "C" fn fabric_run_v2(
         }))
         area.old }
 {
-    fabric::fabric_run_v2(
-        file, area, start, limit, budget, care0, care1, care2, care3, care4, care5, care6, care7,
-        value0, value1, value2, value3, value4, value5, value6, value7,
-    )
+    let wide = WideSet {
+        low: HeaderSet {
+            care: [care0, care1, care2, care3],
+            value: [value0, value1, value2, value3],
+        },
+        high: HeaderSet {
+            care: [care4, care5, care6, care7],
+            value: [value4, value5, value6, value7],
+        },
+    };
+    fabric::make(Call::Run, file, area, start, limit, budget, wide)
 }

@@ -15,13 +15,13 @@ use Rattle.layout.specs.Records.{half, Width, width_in, admitted_at, edge_words,
 use Rattle.layout.specs.Records.{edge_port, entry_in, entry_out}
 use Rattle.layout.specs.Records.{place_of, place_in, port_of_edge, from_of_link, to_of_link, in_of_entry, edge_bytes, entry_bytes, recent}
 use Rattle.layout.specs.Limits.{most_edges, most_links, most_at_port, most_entries, most_bytes, most_words}
-use Rattle.layout.specs.declared.Shape.{Shape}
+use Rattle.layout.specs.Shape.{Shape}
 use Rattle.layout.proofs.Words.{words_from_fit, part_long, part_word, part_set}
 use Rattle.layout.proofs.Transfers.{number_kept}
 use Rattle.layout.proofs.Widths.{by_width, width_is}
 use Rattle.questions.specs.Questions.{times, accepted}
 use Rattle.questions.specs.Reading.{passed_at}
-use Rattle.questions.specs.declared.Read.TheVariants.{Fabric}
+use Rattle.questions.specs.Read.{Fabric}
 use Rattle.questions.proofs.Lists.{none_has, rising, times_within, number_is}
 use Rattle.questions.proofs.Versions.{sized_says, most_bytes_any}
 use Rattle.questions.proofs.Yes.{yeses, EdgeIs, edge_is, LinkIs, link_is, EntryIs, entry_is}
@@ -213,7 +213,7 @@ module _ (f : List ℕ) (s : Shape) (ok : Accepted f s) where
   pub no_edge_at_to : (i j : ℕ) → i < s.edges → j < s.links → port_of_edge f i ≡ to_of_link f s.edges j → ⊥
   no_edge_at_to i j h l = none_has (port_of_edge f) s.edges (to_of_link f s.edges j) (link_facts j l).to_free i h
 
-  -- ---- what the tables hold: `found` and `missing` of proofs/Tables.antt say the rest
+  -- ---- what the tables hold: `found` and `missing` of proofs/Numbering.antt say the rest
 
   module _ (edges starts ends : List ℕ) (t : Indexed f s.edges s.links edges starts ends) where
     pub edge_numbered : (i : ℕ) → i < s.edges → get_or edges (port_of_edge f i) 0 ≡ suc i

@@ -1,4 +1,4 @@
-pub mod Tables
+pub mod Numbering
 mod Steps
 mod Loops
 mod Whole

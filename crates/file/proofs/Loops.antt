@@ -1,23 +1,23 @@
--- The three loops of the reader: what each has in hand where it begins, what a turn keeps, and what each way out gives. A reader
--- is handed hw, the words of a header in the file.
+-- The three loops of the reader: what each has in hand, what a turn keeps, and what a no gives. hw is the words of a header in the
+-- file.
 use mathlib.Core.List.{List, []}
 use mathlib.Core.Path.{◌≡◌, refl, sym, ap, ◌∙◌}
 use Prim.Native.Nat.{ℕ, ◌+◌, ◌≤◌, ◌<◌}
 use native.Mathlib.Omega.{arith}
 use lib.ListN.{get_or, set, replicate}
+use borrow.Author.Tests.{ne_eqb}
 use Rattle.layout.specs.Words.{word_at, words_in, kind_of, port_of, from_of}
-use Rattle.layout.specs.Records.{Width, width_in, edge_words, entry_words, place_of, place_in}
+use Rattle.layout.specs.Records.{width_in, edge_words, entry_words, place_of, place_in}
 use Rattle.layout.specs.Records.{port_of_edge, from_of_link, to_of_link, in_of_entry, recent}
-use Rattle.layout.specs.Limits.{most_at_port, most_words}
-use Rattle.layout.proofs.Widths.{width_said}
+use Rattle.layout.specs.Limits.{most_at_port}
 use Rattle.questions.specs.Questions.{latest, times}
-use Rattle.questions.specs.Reading.{passed_at, Bounded, Here, asked_at}
+use Rattle.questions.specs.Read.{No}
+use Rattle.questions.specs.Reading.{passed_at, Here, asked_at}
 use Rattle.questions.specs.Tables.{Counts, EdgeTable, StartTable, EndTable}
 use Rattle.questions.proofs.Lists.{recent_more}
 use Rattle.questions.proofs.Yes.{yeses, EdgeIs, edge_is, LinkIs, link_is, EntryIs, entry_is}
-use Rattle.file.specs.Tables.{Empty}
-use Rattle.file.specs.Reading.{rest, RunRead}
-use Rattle.file.proofs.Tables.{zeros, numbered, counted}
+use Rattle.file.specs.Reading.{rest}
+use Rattle.file.proofs.Numbering.{zeros, numbered, counted}
 use Rattle.file.proofs.Steps.{stops, next_edge, next_link, next_entry}
 
 -- ---- what a loop has in hand
@@ -45,60 +45,26 @@ pub record EntriesSoFar (f : List ℕ) (e l n place : ℕ) (counts : List ℕ) :
 
 -- ---- a run of any kind, at a record and as it is left
 
--- what `place` wants of the record after e edges, l links and n entries
-pub place_fits : (f : List ℕ) (hw e l n : ℕ) → hw ≡ width_in f → Bounded f → place_in f e l n ≤ words_in f
-    → Width hw × (place_of hw e l n ≤ most_words)
-place_fits f hw e l n hh b i = (width_said f hh, rw hh (omega (arith, b.high)))
-
 module _ (f : List ℕ) (e₀ l₀ n₀ e l n place : ℕ) (s : SoFar f e₀ l₀ n₀ e l n place) where
   -- the record in hand, by the word and the kind that were read
   pub here : (w k q : ℕ) → place < words_in f → w ≡ word_at f place → q ≡ kind_of w → q ≡ k → Here f e l n k w
   here w k q i hw hq h = record { inside = rw s.place_is at i; word_is = hw ∙ ap (word_at f) s.place_is; kind_is = sym hq ∙ h }
 
-  done : (k : ℕ) → (place < words_in f → kind_of (word_at f place) ≡ k → ⊥) → RunRead f k e₀ l₀ n₀ e l n 0
-  done k d = record {
-    inside = rw s.place_is at s.inside;
-    answer = s.answer;
-    done = λ _. rw s.place_is at d;
-  }
-
-  pub other : (w k q : ℕ) → w ≡ word_at f place → q ≡ kind_of w → (q ≡ k → ⊥) → RunRead f k e₀ l₀ n₀ e l n 0
-  other w k q hw hq d = done k (λ _ h. d (hq ∙ ap kind_of hw ∙ h))
-
-  pub all_read : (k : ℕ) → words_in f ≤ place → RunRead f k e₀ l₀ n₀ e l n 0
-  all_read k h = done k (λ i _. let z : ⊥ = omega arith in z)
-
-  pub refused : (k q : ℕ) → q ≡ asked_at f e l n → (q ≡ 0 → ⊥) → RunRead f k e₀ l₀ n₀ e l n q
-  refused k q a z =
+  -- a no to it is what the questions answer
+  pub refused : (q : ℕ) → 0 < q → q ≡ asked_at f e l n → No q place ≡ rest f e₀ l₀ n₀
+  refused q l' a =
       let i : place_in f e l n ≤ words_in f = rw s.place_is at s.inside in
-      record {
-        inside = i;
-        answer = s.answer ∙ stops f e l n i q (rest f e l n) a z;
-        done = λ h _ _. absurd (z h);
-      }
+      let z : q ≡ 0 → ⊥ = λ z. let y : ⊥ = omega arith in y in
+      rw s.place_is (sym (s.answer ∙ stops f e l n i q (rest f e l n) a z ∙ simp (ne_eqb q 0 z)))
 
   further : (e' l' n' place' : ℕ) → place' ≡ place_in f e' l' n' → place' ≤ words_in f → rest f e l n ≡ rest f e' l' n'
       → SoFar f e₀ l₀ n₀ e' l' n' place'
   further e' l' n' place' p i r = record { place_is = p; inside = i; answer = s.answer ∙ r }
 
--- a run of links or entries begins after e edges and l links
-started : (f : List ℕ) (e l hw place : ℕ) → hw ≡ width_in f → place ≡ place_of hw e l 0 → place_in f e l 0 ≤ words_in f
-    → SoFar f e l 0 e l 0 place
-started f e l hw place hh hp h =
-    let here : place ≡ place_in f e l 0 = hp ∙ ap (λ (w : ℕ). place_of w e l 0) hh in
-    record { place_is = here; inside = omega arith; answer = refl }
-
 latest_more : (g : ℕ → ℕ) (n p : ℕ) → p ≡ g n → p ≡ latest (recent g (n + 1))
 latest_more g n p h = h ∙ sym (ap latest (recent_more g n))
 
 -- ---- edges
-
-pub edges_start : (f t : List ℕ) → 2 ≤ words_in f → Empty t → EdgesSoFar f 0 1 0 t
-edges_start f t h T = record {
-  so_far = record { place_is = omega arith; inside = omega arith; answer = refl };
-  last_is = refl;
-  edge_at_lem = T;
-}
 
 -- an edge with the word w got five yeses
 module _ (f : List ℕ) (e place last : ℕ) (t : List ℕ) (s : EdgesSoFar f e place last t) (w q : ℕ)
@@ -122,15 +88,6 @@ module _ (f : List ℕ) (e place last : ℕ) (t : List ℕ) (s : EdgesSoFar f e 
       }
 
 -- ---- links
-
-pub links_start : (f : List ℕ) (hw e place : ℕ) (starts ends : List ℕ) → hw ≡ width_in f → place ≡ place_of hw e 0 0
-    → place_in f e 0 0 ≤ words_in f → Empty starts → Empty ends → LinksSoFar f e 0 place 0 starts ends
-links_start f hw e place starts ends hh hp h t u = record {
-  so_far = started f e 0 hw place hh hp h;
-  last_is = refl;
-  start_at = t;
-  end_at = u;
-}
 
 module _ (f : List ℕ) (e l place last : ℕ) (starts ends : List ℕ) (s : LinksSoFar f e l place last starts ends) (w q : ℕ)
     (h : Here f e l 0 3 w) (hq : q ≡ asked_at f e l 0) (z : q ≡ 0) where
@@ -158,10 +115,12 @@ module _ (f : List ℕ) (e l place last : ℕ) (starts ends : List ℕ) (s : Lin
 pub entries_start : (f : List ℕ) (hw e l place : ℕ) → hw ≡ width_in f → place ≡ place_of hw e l 0
     → place_in f e l 0 ≤ words_in f
     → EntriesSoFar f e l 0 place (replicate 4096 0)
-entries_start f hw e l place hh hp h = record {
-  so_far = started f e l hw place hh hp h;
-  counted = zeros (λ p. times p []) (λ p. refl);
-}
+entries_start f hw e l place hh hp h =
+    let here : place ≡ place_in f e l 0 = hp ∙ ap (λ (w : ℕ). place_of w e l 0) hh in
+    record {
+      so_far = record { place_is = here; inside = omega arith; answer = refl };
+      counted = zeros (λ p. times p []) (λ p. refl);
+    }
 
 module _ (f : List ℕ) (e l n place : ℕ) (counts : List ℕ) (s : EntriesSoFar f e l n place counts) (w q port : ℕ)
     (h : Here f e l n 4 w) (hq : q ≡ asked_at f e l n) (z : q ≡ 0) (hp : port ≡ port_of w) where

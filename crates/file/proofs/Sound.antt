@@ -11,11 +11,11 @@ use borrow.Author.Count.{below_more}
 use borrow.Author.Tests.{ne_eqb}
 use Rattle.layout.specs.Words.{word_at, words_in, kind_of}
 use Rattle.layout.specs.Records.{Width, width_in, place_in}
-use Rattle.layout.specs.declared.Shape.{Shape}
+use Rattle.layout.specs.Shape.{Shape}
 use Rattle.questions.specs.Questions.{passed, after_start, shape, records, accepted, sized, started}
 use Rattle.questions.specs.Reading.{last_kind, passed_at, asked_at}
-use Rattle.questions.specs.declared.Read.{Read}
-use Rattle.questions.specs.declared.Read.TheVariants.{Fabric}
+use Rattle.questions.specs.Read.{Read}
+use Rattle.questions.specs.Read.{Fabric}
 use Rattle.questions.proofs.Lists.{recent_long}
 use Rattle.questions.proofs.Versions.{own_width}
 use Rattle.questions.proofs.Yes.{yeses, Ordered, ordered}

@@ -11,8 +11,8 @@ use Rattle.layout.specs.Words.{word_at, words_in, kind_of}
 use Rattle.layout.specs.Records.{width_in, edge_words, entry_words, place_in}
 use Rattle.questions.specs.Questions.{pick, or_else, Passed, passed, shape, records}
 use Rattle.questions.specs.Reading.{passed_at, asked_at}
-use Rattle.questions.specs.declared.Read.{Read}
-use Rattle.questions.specs.declared.Read.TheVariants.{Fabric}
+use Rattle.questions.specs.Read.{Read}
+use Rattle.questions.specs.Read.{Fabric}
 use Rattle.questions.proofs.Lists.{recent_more, recent_long}
 use Rattle.file.specs.Reading.{rest}
 

@@ -5,21 +5,20 @@ use mathlib.Core.Path.{◌≡◌, refl, sym, ap, ◌∙◌}
 use Prim.Native.Nat.{ℕ, ◌+◌, ◌≤◌, ◌<◌}
 use native.Mathlib.Omega.{arith}
 use lib.Dec.{ltb, eqb}
-use borrow.Author.Tests.{lt-ltb, le-leb, ne_eqb, ltb-false, eqb-true, not-true, not-false}
+use borrow.Author.Tests.{lt-ltb, le-leb, ltb-false, eqb-true, not-true, not-false}
 use Rattle.layout.specs.Words.{word_at, words_in, kind_of, bits}
 use Rattle.layout.specs.Records.{Width, width_in, place_of, place_in}
 use Rattle.layout.proofs.Words.{word_fits}
-use Rattle.questions.specs.Questions.{pick, or_else, asked, in_order, ports_right, sets_tidy, link_free, within_limits, shape, records}
+use Rattle.questions.specs.Questions.{pick, asked, in_order, ports_right, sets_tidy, link_free, within_limits, shape, records}
 use Rattle.questions.specs.Questions.{after_start, accepted, sized, started}
 use Rattle.questions.specs.Reading.{last_kind, passed_at, Bounded, asked_at, ends_at}
-use Rattle.questions.specs.declared.Read.{Read}
-use Rattle.questions.specs.declared.Read.TheVariants.{Fabric, No}
+use Rattle.questions.specs.Read.{Read}
+use Rattle.questions.specs.Read.{Fabric, No}
 use Rattle.questions.proofs.Asked.{up_to_entries}
 use Rattle.questions.proofs.Chains.{parts}
 use Rattle.questions.proofs.Versions.{bounded, own_width}
 use Rattle.questions.proofs.Yes.{Ordered, ordered}
 use Rattle.file.specs.Reading.{rest, RunRead}
-use Rattle.file.specs.Tables.{Tabled, Indexed}
 use Rattle.file.proofs.Steps.{stops, ends_there}
 
 -- ---- the last kind says what has not come yet
@@ -83,67 +82,37 @@ module _ (f : List ℕ) (e l n : ℕ) where
 
 -- ---- the three runs and the end, put together
 
-no_there : (x y : Read) (q place : ℕ) → x ≡ or_else q place y → (q ≡ 0 → ⊥) → No q place ≡ x
-no_there x y q place h z = sym (h ∙ simp (ne_eqb q 0 z))
+module _ (f : List ℕ) (e l n : ℕ) (A : RunRead f 2 0 0 0 e 0 0 0) (B : RunRead f 3 e 0 0 e l 0 0) (C : RunRead f 4 e l 0 e l n 0) where
+  to_end : rest f 0 0 0 ≡ rest f e l n
+  to_end = A.answer ∙ B.answer ∙ C.answer
 
-goes_on_lem : (x y : Read) (q place : ℕ) → x ≡ or_else q place y → q ≡ 0 → x ≡ y
-goes_on_lem x y q place h z = h ∙ simp z
+  module _ (hw at : ℕ) (hh : hw ≡ width_in f) (ha : at ≡ place_of hw e l n) where
+    end_place : at ≡ place_in f e l n
+    end_place = rw hh at ha
 
--- the answer, and the tables with it; of a no there is nothing to say about them
-module _ (f : List ℕ) (hw : ℕ) (hh : hw ≡ width_in f) (edges starts ends : List ℕ) where
-  abbrev Answer : Read → Type 0
-  Answer r = (r ≡ rest f 0 0 0) × Tabled f r edges starts ends
+    pub fabric : ends_at f at ≡ true → Fabric (shape hw e l n) ≡ rest f 0 0 0
+    fabric t =
+        let q = end_asked f e l n (rw end_place at t) in
+        ap (λ (w : ℕ). Fabric (shape w e l n)) hh ∙ sym (to_end ∙ ends_there f e l n C.inside q.0 q.1)
 
-  refused : (r : Read) (q e l n : ℕ) → r ≡ No q (place_of hw e l n) → No q (place_in f e l n) ≡ rest f 0 0 0 → Answer r
-  refused r q e l n h a = (rw hh at h ∙ a, rw h tt)
+    pub no_end : ends_at f at ≡ false → No 3 at ≡ rest f 0 0 0
+    unfolding asked passed_at
+    no_end t =
+        rw end_place
+        (sym (to_end ∙ stops f e l n C.inside 3 (rest f e l n) (three (in_order f (passed_at f e l n)) refl) not_zero))
+      where
+        not_zero : ◌≡◌ {A = ℕ} 3 0 → ⊥
+        not_zero z = omega arith
 
-  module _ (qa e : ℕ) (A : RunRead f 2 0 0 0 e 0 0 qa) where
-    pub edges_no : (r : Read) → r ≡ No qa (place_of hw e 0 0) → (qa ≡ 0 → ⊥) → Answer r
-    edges_no r h z = refused r _ e 0 0 h (no_there _ _ _ _ A.answer z)
-
-    module _ (za : qa ≡ 0) (qb l : ℕ) (B : RunRead f 3 e 0 0 e l 0 qb) where
-      pub links_no : (r : Read) → r ≡ No qb (place_of hw e l 0) → (qb ≡ 0 → ⊥) → Answer r
-      links_no r h z = refused r _ e l 0 h (no_there _ _ _ _ B.answer z ∙ sym (goes_on_lem _ _ _ _ A.answer za))
-
-      module _ (zb : qb ≡ 0) (qc n : ℕ) (C : RunRead f 4 e l 0 e l n qc) where
-        to_entries : rest f 0 0 0 ≡ rest f e l 0
-        to_entries = goes_on_lem _ _ _ _ A.answer za ∙ goes_on_lem _ _ _ _ B.answer zb
-
-        pub entries_no : (r : Read) → r ≡ No qc (place_of hw e l n) → (qc ≡ 0 → ⊥) → Answer r
-        entries_no r h z = refused r _ e l n h (no_there _ _ _ _ C.answer z ∙ sym to_entries)
-
-        module _ (zc : qc ≡ 0) (at : ℕ) (ha : at ≡ place_of hw e l n) (b : Bool) (hb : b ≡ ends_at f at) where
-          to_end : rest f 0 0 0 ≡ rest f e l n
-          to_end = to_entries ∙ goes_on_lem _ _ _ _ C.answer zc
-
-          ends_here : b ≡ ends_at f (place_in f e l n)
-          ends_here = hb ∙ ap (ends_at f) (rw hh at ha)
-
-          pub fabric : b ≡ true → Indexed f e l edges starts ends → Answer (Fabric (shape hw e l n))
-          fabric t x =
-              let q = end_asked f e l n (sym ends_here ∙ t) in
-              (ap (λ (w : ℕ). Fabric (shape w e l n)) hh ∙ sym (to_end ∙ ends_there f e l n C.inside q.0 q.1), x)
-
-          pub no_end : (r : Read) → r ≡ No 3 (place_of hw e l n) → b ≡ false → Answer r
-          unfolding asked passed_at
-          no_end r h t =
-              refused r _ e l n h
-              (no_there _ (rest f e l n) 3 (place_in f e l n)
-              (stops f e l n C.inside 3 (rest f e l n) (three (in_order f (passed_at f e l n)) refl) not_zero) not_zero
-              ∙ sym to_end)
-            where
-              not_zero : ◌≡◌ {A = ℕ} 3 0 → ⊥
-              not_zero z = omega arith
-
-              three : (b : Bool) → in_order f (passed_at f e l n) ≡ b → 3 ≡ asked_at f e l n
-              three false h = simp h
-              three true h =
-                  let o = ordered f (passed_at f e l n) h in
-                  let i : place_in f e l n < words_in f = o.here in
-                  absurd (true≢false
-                  (sym (only_end f e l n o (C.done zc i) (λ zn k. B.done zb (rw zn at i) (rw zn at k))
-                  (λ zn zl k. A.done za (rw (zn, zl) at i) (rw (zn, zl) at k)))
-                  ∙ sym ends_here ∙ t))
+        three : (b : Bool) → in_order f (passed_at f e l n) ≡ b → 3 ≡ asked_at f e l n
+        three false h = simp h
+        three true h =
+            let o = ordered f (passed_at f e l n) h in
+            let i : place_in f e l n < words_in f = o.here in
+            absurd (true≢false
+            (sym (only_end f e l n o (C.done refl i) (λ zn k. B.done refl (rw zn at i) (rw zn at k))
+            (λ zn zl k. A.done refl (rw (zn, zl) at i) (rw (zn, zl) at k)))
+            ∙ rw end_place at t))
 
 -- ---- questions 1 and 2
 

@@ -5,9 +5,9 @@ use Rattle.headers.specs.Sets.{WellFormed, Written, tidy, writes}
 use Rattle.layout.specs.Words.{word_at, transfer_of}
 use Rattle.layout.specs.Records.{width_in, edge_words, entry_words, edge_port, edge_admitted}
 use Rattle.layout.specs.Records.{entry_in, entry_out, entry_match, entry_rewrite, entry_transfer, number_of}
-use Rattle.layout.specs.declared.Shape.{Shape}
+use Rattle.layout.specs.Shape.{Shape}
 use Rattle.questions.specs.Questions.{accepted}
-use Rattle.questions.specs.declared.Read.TheVariants.{Fabric}
+use Rattle.questions.specs.Read.{Fabric}
 
 -- the file is accepted with this shape, in a call for its own version
 abbrev pub Accepted : List ℕ → Shape → Type 0

@@ -6,8 +6,8 @@ use Rattle.layout.specs.Words.{word_at}
 use Rattle.layout.specs.Records.{width_in}
 use Rattle.questions.specs.Questions.{shape, accepted, records, passed, asked, in_order, ports_right, sets_tidy, link_free, within_limits}
 use Rattle.questions.specs.Questions.{sized, started}
-use Rattle.questions.specs.declared.Read.{Read}
-use Rattle.questions.specs.declared.Read.TheVariants.{Fabric, No}
+use Rattle.questions.specs.Read.{Read}
+use Rattle.questions.specs.Read.{Fabric, No}
 
 -- words as the file's bytes
 abbrev pub bytes_of : List ℕ → List ℕ

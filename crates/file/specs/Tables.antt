@@ -1,8 +1,8 @@
 -- The tables by port that the reader of a file leaves. Assumes nothing.
 use Rattle.std.specs.Prelude.{List, [], ℕ}
 use Rattle.questions.specs.Tables.{Numbers, EdgeTable, StartTable, EndTable}
-use Rattle.questions.specs.declared.Read.{Read}
-use Rattle.questions.specs.declared.Read.TheVariants.{Fabric, No}
+use Rattle.questions.specs.Read.{Read}
+use Rattle.questions.specs.Read.{Fabric, No}
 
 abbrev pub Empty : List ℕ → Type 0
 Empty t = Numbers [] t

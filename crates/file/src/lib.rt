@@ -1,39 +1,82 @@
 // The fabric file of document 01, read record by record: questions 1 to 7, and the records of an accepted file. What is asked stands in
-// the crate `questions`, what a record's bytes say in `records`. What follows for an accepted file is in proofs/Accepted.antt. hw is the
-// words of a header in the file, by its version.
+// the crate `questions`, what a record's bytes say in `records`. What follows for an accepted file is in proofs/Accepted.antt.
 #![tactic(auto)]
 
-ghost use Rattle.std.specs.Prelude.{◌≡◌, ◌<◌, ◌≤◌};
-ghost use Rattle.layout.specs.Words.{words_in};
-ghost use Rattle.layout.specs.Records.{Width, width_in, place_of, place_in, from_of_link, to_of_link, edge_bytes, entry_bytes};
-ghost use Rattle.layout.specs.Limits.{most_words};
+ghost use Rattle.std.specs.Prelude.{◌≡◌, ◌<◌, ◌≤◌, MatchResult, IfOk};
+ghost use Rattle.layout.specs.Words.{word_at, words_in};
+ghost use Rattle.layout.specs.Records.{width_in, place_in, from_of_link, to_of_link, edge_bytes, entry_bytes};
+ghost use Rattle.layout.specs.Versions.{header_words, shape_counted};
 ghost use Rattle.questions.specs.Questions.{accepted};
 ghost use Rattle.questions.specs.Tables.{EdgeTable, StartTable, EndTable};
 ghost use Rattle.questions.specs.Reading.{Bounded};
-ghost use Rattle.questions.specs.declared.Read.TheVariants.{No};
+ghost use Rattle.questions.specs.Refusals.{read_of};
 ghost use Rattle.file.specs.Tables.{Empty, Tabled};
 ghost use Rattle.file.specs.Accepted.{Accepted, HasEdge};
-ghost use Rattle.file.specs.Reading.{RunRead, rest};
+ghost use Rattle.file.specs.Reading.{RunRead, Refused, rest};
 
-use layout::Shape;
-use questions::Read;
+use layout::{Counts, Version};
+use questions::{No, Refusal};
+use records::Kind;
 
-// How many records of a kind got yeses, and the number of the no that the next one got, or 0.
-#[derive(Clone, Copy)]
-struct Run {
-    no: u32,
-    count: usize,
+// By one more than its number: which edge has a port, which link starts there and which link ends there; 0 for none, where an
+// Option would double a cell. They are arrays of a fixed length, as nothing is allocated, and are filled where they stand, so clauses say
+// that they are empty before.
+#[derive(Drop)]
+pub struct Tables {
+    pub edges: [u16; 4096],
+    pub starts: [u16; 4096],
+    pub ends: [u16; 4096],
 }
 
-// ---- the records of each kind
+impl Tables {
+    pub fn empty() -> Self
+        ensures edges { Empty result.edges }
+        ensures starts { Empty result.starts }
+        ensures ends { Empty result.ends }
+    {
+        Tables {
+            edges: [0; 4096],
+            starts: [0; 4096],
+            ends: [0; 4096],
+        }
+    }
+}
+
+// An accepted file, and its counts.
+#[derive(Clone, Copy)]
+pub struct Fabric<'a> {
+    pub file: &'a [u8],
+    pub counts: Counts,
+    ghost accepted: { Accepted file.now (shape_counted counts) },
+}
+
+// With the table of its edges by their ports.
+#[derive(Clone, Copy)]
+pub struct EdgePorts<'a> {
+    pub fabric: Fabric<'a>,
+    pub at: &'a [u16; 4096],
+    ghost table: { EdgeTable fabric.file.now fabric.counts.edges at.now },
+}
+
+// With the table of its links by the ports that they start from.
+#[derive(Clone, Copy)]
+pub struct LinkPorts<'a> {
+    pub fabric: Fabric<'a>,
+    pub from: &'a [u16; 4096],
+    ghost table: { StartTable fabric.file.now fabric.counts.edges fabric.counts.links from.now },
+}
+
+// ---- the records of each kind, each run with how many got yeses. A record's number and its place go up by different steps, so each
+// run is a `while`. What is known of the file grows from question to question, so clauses say it (`Bounded`, its version).
+// A refusal gets its place by `if let`: with `map_err` it would come to the run by a closure's clauses.
 
 // The edges, from word 1 on, each numbered at its port.
-fn edges(file: &[u8], hw: usize, edge_of: &mut [u16; 4096]) -> Run
-    requires hw_value { hw ≡ width_in file.now }
+fn edges(file: &[u8], version: Version, edge_of: &mut [u16; 4096]) -> Result<usize, No>
+    requires version_is { header_words version ≡ width_in file.now }
     requires bounded { Bounded file.now }
     requires empty { Empty edge_of.old }
-    ensures run_read { RunRead file.now 2 0 0 0 result.count 0 0 result.no }
-    ensures edge_table { EdgeTable file.now result.count edge_of.new }
+    ensures run_read { MatchResult result (λ e. RunRead file.now 2 0 0 0 e 0 0 0) (λ first. Refused file.now 0 0 0 first) }
+    ensures edge_table { IfOk result (λ e. EdgeTable file.now e edge_of.new) }
 {
     let words = file.len() / 4;
     let mut e: usize = 0;
@@ -41,52 +84,56 @@ fn edges(file: &[u8], hw: usize, edge_of: &mut [u16; 4096]) -> Run
     let mut last: u32 = 0;
     while at < words {
         let w = records::word(file, at);
-        if records::kind_of(w) != 2 {
-            return Run { no: 0, count: e };
+        if !records::is_kind(w, Kind::Edge) {
+            return Ok(e);
         }
-        let no = record_questions::edge_no(file, hw, at, w, last, e);
-        if no != 0 {
-            return Run { no, count: e };
+        if let Err(refusal) = record_questions::edge_asked(file, version, at, w, last, e) {
+            return Err(No {
+                refusal,
+                place: at as u32,
+            });
         }
         last = records::port_of(w);
         e += 1;
         edge_of[last as usize] = e as u16;
-        at += records::edge_words(hw);
+        at += records::edge_words(version);
     }
-    Run { no: 0, count: e }
+    Ok(e)
 }
 
 // The links after e edges, each numbered where it starts and where it ends.
 fn links(
     file: &[u8],
-    hw: usize,
+    version: Version,
     edge_of: &[u16; 4096],
     starts: &mut [u16; 4096],
     ends: &mut [u16; 4096],
     e: usize,
-) -> Run
-    requires hw_value { hw ≡ width_in file.now }
+) -> Result<usize, No>
+    requires version_is { header_words version ≡ width_in file.now }
     requires bounded { Bounded file.now }
     requires e_bound { place_in file.now e 0 0 ≤ words_in file.now }
     requires edge_table { EdgeTable file.now e edge_of.now }
     requires empty { Empty starts.old }
     requires empty_2 { Empty ends.old }
-    ensures run_read { RunRead file.now 3 e 0 0 e result.count 0 result.no }
-    ensures start_table { StartTable file.now e result.count starts.new }
-    ensures end_table { EndTable file.now e result.count ends.new }
+    ensures run_read { MatchResult result (λ l. RunRead file.now 3 e 0 0 e l 0 0) (λ first. Refused file.now e 0 0 first) }
+    ensures start_table { IfOk result (λ l. StartTable file.now e l starts.new) }
+    ensures end_table { IfOk result (λ l. EndTable file.now e l ends.new) }
 {
     let words = file.len() / 4;
     let mut l: usize = 0;
-    let mut at = records::place(hw, e, 0, 0);
+    let mut at = records::place(version, e, 0, 0);
     let mut last: u32 = 0;
     while at < words {
         let w = records::word(file, at);
-        if records::kind_of(w) != 3 {
-            return Run { no: 0, count: l };
+        if !records::is_kind(w, Kind::Link) {
+            return Ok(l);
         }
-        let no = record_questions::link_no(file, w, last, e, l, edge_of, ends);
-        if no != 0 {
-            return Run { no, count: l };
+        if let Err(refusal) = record_questions::link_asked(file, w, last, e, l, edge_of, ends) {
+            return Err(No {
+                refusal,
+                place: at as u32,
+            });
         }
         last = records::from_of(w);
         let to = records::port_of(w);
@@ -95,154 +142,166 @@ fn links(
         ends[to as usize] = l as u16;
         at += 1;
     }
-    Run { no: 0, count: l }
+    Ok(l)
 }
 
 // The entries after e edges and l links.
-fn entries(file: &[u8], hw: usize, e: usize, l: usize) -> Run
-    requires hw_value { hw ≡ width_in file.now }
+fn entries(file: &[u8], version: Version, e: usize, l: usize) -> Result<usize, No>
+    requires version_is { header_words version ≡ width_in file.now }
     requires bounded { Bounded file.now }
     requires l_bound { place_in file.now e l 0 ≤ words_in file.now }
-    ensures { RunRead file.now 4 e l 0 e l result.count result.no }
+    ensures { MatchResult result (λ n. RunRead file.now 4 e l 0 e l n 0) (λ first. Refused file.now e l 0 first) }
 {
+    // how many entries a port has, in an array of a fixed length, as nothing is allocated
     let mut counts = [0u8; 4096];
     let words = file.len() / 4;
     let mut n: usize = 0;
-    let mut at = records::place(hw, e, l, 0);
+    let mut at = records::place(version, e, l, 0);
     while at < words {
         let w = records::word(file, at);
-        if records::kind_of(w) != 4 {
-            return Run { no: 0, count: n };
+        if !records::is_kind(w, Kind::Entry) {
+            return Ok(n);
         }
-        let no = entry_questions::entry_no(file, hw, at, w, e, l, n, &counts);
-        if no != 0 {
-            return Run { no, count: n };
+        if let Err(refusal) = entry_questions::entry_asked(file, version, at, w, e, l, n, &counts) {
+            return Err(No {
+                refusal,
+                place: at as u32,
+            });
         }
         let port = records::port_of(w) as usize;
-        counts[port] = counts[port] + 1;
+        counts[port] += 1;
         n += 1;
-        at += records::entry_words(hw);
+        at += records::entry_words(version);
     }
-    Run { no: 0, count: n }
+    Ok(n)
 }
 
 // ---- all of the questions
 
-fn no_at(hw: usize, number: u32, e: usize, l: usize, n: usize) -> Read
-    requires width { Width hw }
-    requires n_bound { place_of hw e l n ≤ most_words }
-    ensures { result ≡ No number (place_of hw e l n) }
-{
-    Read::No(number, records::place(hw, e, l, n) as u32)
-}
-
-// The records after the start, with the tables of edges and links.
-fn records(
-    file: &[u8],
-    hw: usize,
-    edge_of: &mut [u16; 4096],
-    starts: &mut [u16; 4096],
-    ends: &mut [u16; 4096],
-) -> Read
-    requires hw_value { hw ≡ width_in file.now }
+// The records after the start.
+fn records(file: &[u8], version: Version, tables: &mut Tables) -> Result<Counts, No>
+    requires version_is { header_words version ≡ width_in file.now }
     requires bounded { Bounded file.now }
-    requires empty { Empty edge_of.old }
-    requires empty_2 { Empty starts.old }
-    requires empty_3 { Empty ends.old }
-    ensures value { result ≡ rest file.now 0 0 0 }
-    ensures tabled { Tabled file.now result edge_of.new starts.new ends.new }
+    requires edges { Empty tables.old.edges }
+    requires starts { Empty tables.old.starts }
+    requires ends { Empty tables.old.ends }
+    ensures value { read_of result ≡ rest file.now 0 0 0 }
+    ensures tabled { Tabled file.now (read_of result) tables.new.edges tables.new.starts tables.new.ends }
 {
-    let a = edges(file, hw, edge_of);
-    let e = a.count;
-    if a.no != 0 {
-        return no_at(hw, a.no, e, 0, 0);
+    let e = edges(file, version, &mut tables.edges)?;
+    let l = links(
+        file,
+        version,
+        &tables.edges,
+        &mut tables.starts,
+        &mut tables.ends,
+        e,
+    )?;
+    let n = entries(file, version, e, l)?;
+    let at = records::place(version, e, l, n);
+    if !record_questions::ends_at(file, at) {
+        return Err(No {
+            refusal: Refusal::Order,
+            place: at as u32,
+        });
     }
-    let b = links(file, hw, edge_of, starts, ends, e);
-    let l = b.count;
-    if b.no != 0 {
-        return no_at(hw, b.no, e, l, 0);
-    }
-    let c = entries(file, hw, e, l);
-    let n = c.count;
-    if c.no != 0 {
-        return no_at(hw, c.no, e, l, n);
-    }
-    if record_questions::ends_at(file, records::place(hw, e, l, n)) {
-        Read::Fabric(Shape {
-            words: hw,
-            edges: e,
-            links: l,
-            entries: n,
-        })
-    } else {
-        no_at(hw, 3, e, l, n)
-    }
+    Ok(Counts {
+        version,
+        edges: e,
+        links: l,
+        entries: n,
+    })
 }
 
-// Questions 1 to 7, in a call for the version whose headers have hw words. The tables come in empty; of an accepted file they then say,
-// by one more than its number, which edge has a port, which link starts there and which link ends there.
-pub fn accept(
-    file: &[u8],
-    hw: usize,
-    edge_of: &mut [u16; 4096],
-    starts: &mut [u16; 4096],
-    ends: &mut [u16; 4096],
-) -> Read
-    requires width { Width hw }
-    requires empty { Empty edge_of.old }
-    requires empty_2 { Empty starts.old }
-    requires empty_3 { Empty ends.old }
-    ensures value { result ≡ accepted hw file.now }
-    ensures tabled { Tabled file.now result edge_of.new starts.new ends.new }
+// Questions 1 to 7, in a call for a version. The tables come in empty; of an accepted file they then have its edges and links.
+pub fn accept(file: &[u8], version: Version, tables: &mut Tables) -> Result<Counts, No>
+    requires edges { Empty tables.old.edges }
+    requires starts { Empty tables.old.starts }
+    requires ends { Empty tables.old.ends }
+    ensures value { read_of result ≡ accepted (header_words version) file.now }
+    ensures tabled { Tabled file.now (read_of result) tables.new.edges tables.new.starts tables.new.ends }
 {
-    if !file_questions::sized(file, hw) {
-        return Read::No(1, 0);
+    if !file_questions::sized(file, version) {
+        return Err(No {
+            refusal: Refusal::Size,
+            place: 0,
+        });
     }
-    if !file_questions::started(file, hw) {
-        return Read::No(2, 0);
+    if !file_questions::started(file, version) {
+        return Err(No {
+            refusal: Refusal::Start,
+            place: 0,
+        });
     }
-    records(file, hw, edge_of, starts, ends)
+    records(file, version, tables)
 }
 
 // ---- records of an accepted file
 
-// Entry i's own bytes of the file.
-pub fn entry<'a>(file: &'a [u8], shape: Shape, i: usize) -> &'a [u8]
-    requires accepted { Accepted file.now shape }
-    requires i_lt_entries { i < shape.entries }
-    ensures { result.now ≡ entry_bytes file.now shape i }
-{
-    let hw = shape.words;
-    records::part(
-        file,
-        records::place(hw, shape.edges, shape.links, i),
-        records::entry_words(hw),
-    )
+impl<'a> Fabric<'a> {
+    // Entry i's own bytes of the file.
+    pub fn entry(&self, i: usize) -> &'a [u8]
+        requires { i < self.now.counts.entries }
+        ensures { result.now ≡ entry_bytes self.now.file.now (shape_counted self.now.counts) i }
+    {
+        let counts = self.counts;
+        records::part(
+            self.file,
+            records::place(counts.version, counts.edges, counts.links, i),
+            records::entry_words(counts.version),
+        )
+    }
+
+    // Edge i's own bytes of the file.
+    pub fn edge(&self, i: usize) -> &'a [u8]
+        requires { i < self.now.counts.edges }
+        ensures { result.now ≡ edge_bytes self.now.file.now i }
+    {
+        let version = self.counts.version;
+        records::part(
+            self.file,
+            records::place(version, i, 0, 0),
+            records::edge_words(version),
+        )
+    }
+
+    // The word of link i.
+    fn link(&self, i: usize) -> u32
+        requires { i < self.now.counts.links }
+        ensures { result ≡ word_at self.now.file.now (place_in self.now.file.now self.now.counts.edges i 0) }
+    {
+        records::word(
+            self.file,
+            records::place(self.counts.version, self.counts.edges, i, 0),
+        )
+    }
+
+    // The from-port of link i. It and the to-port are two fields of the same word, each read by its name.
+    pub fn link_from(&self, i: usize) -> u32
+        requires { i < self.now.counts.links }
+        ensures { result ≡ from_of_link self.now.file.now self.now.counts.edges i }
+    {
+        records::from_of(self.link(i))
+    }
+
+    // The to-port of link i.
+    pub fn link_to(&self, i: usize) -> u32
+        requires { i < self.now.counts.links }
+        ensures { result ≡ to_of_link self.now.file.now self.now.counts.edges i }
+    {
+        records::port_of(self.link(i))
+    }
 }
 
-// Edge i's own bytes of the file.
-pub fn edge<'a>(file: &'a [u8], i: usize) -> &'a [u8]
+// Edge i's own bytes of an accepted file of which no more is at hand.
+pub fn edge_at<'a>(file: &'a [u8], i: usize) -> &'a [u8]
     requires { HasEdge file.now i }
     ensures { result.now ≡ edge_bytes file.now i }
 {
-    let hw = records::width(file);
-    records::part(file, records::place(hw, i, 0, 0), records::edge_words(hw))
-}
-
-// The from-port of link i.
-pub fn link_from(file: &[u8], shape: Shape, i: usize) -> u32
-    requires accepted { Accepted file.now shape }
-    requires i_lt_links { i < shape.links }
-    ensures { result ≡ from_of_link file.now shape.edges i }
-{
-    records::from_of(records::word(file, records::place(shape.words, shape.edges, i, 0)))
-}
-
-// The to-port of link i.
-pub fn link_to(file: &[u8], shape: Shape, i: usize) -> u32
-    requires accepted { Accepted file.now shape }
-    requires i_lt_links { i < shape.links }
-    ensures { result ≡ to_of_link file.now shape.edges i }
-{
-    records::port_of(records::word(file, records::place(shape.words, shape.edges, i, 0)))
+    let version = records::version(file);
+    records::part(
+        file,
+        records::place(version, i, 0, 0),
+        records::edge_words(version),
+    )
 }

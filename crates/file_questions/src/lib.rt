@@ -1,46 +1,54 @@
-// Questions 1 and 2, of the whole file. hw is the words of a header in files of the call's version.
+// Questions 1 and 2, of the whole file, in a call for a version.
 #![tactic(auto)]
 
 ghost use Rattle.std.specs.Prelude.{◌≡◌};
-ghost use Rattle.layout.specs.Records.{Width};
 ghost use Rattle.layout.specs.Limits.{most_bytes};
+ghost use Rattle.layout.specs.Versions.{header_words};
 ghost use Rattle.questions.specs.Questions.{version, sized, started};
 ghost use Rattle.questions.specs.Reading.{Bounded};
 
-use records::HALF;
+use layout::Version;
+use records::Kind;
 
 // ---- what the version says
 
-fn version(hw: usize) -> u32
-    ensures { result ≡ version hw }
+// by the variants' names, as the limit below
+fn number(v: Version) -> u32
+    ensures { result ≡ version (header_words v) }
 {
-    if hw == HALF { 1 } else { 2 }
+    match v {
+        Version::One => 1,
+        Version::Two => 2,
+    }
 }
 
-fn most_bytes(hw: usize) -> usize
-    requires { Width hw }
-    ensures { result ≡ most_bytes hw }
+fn most_bytes(v: Version) -> usize
+    ensures { result ≡ most_bytes (header_words v) }
 {
-    if hw == HALF { 40200 } else { 59784 }
+    match v {
+        Version::One => 40200,
+        Version::Two => 59784,
+    }
 }
 
 // ---- the questions
 
 // Question 1: a length that is a multiple of 4 from 8 to the most of the call's version.
-pub fn sized(file: &[u8], hw: usize) -> bool
-    requires { Width hw }
-    ensures { result ≡ sized hw file.now }
+pub fn sized(file: &[u8], version: Version) -> bool
+    ensures { result ≡ sized (header_words version) file.now }
 {
     let len = file.len();
-    (len % 4 == 0) & (8 <= len) & (len <= most_bytes(hw))
+    (len % 4 == 0) & (8 <= len) & (len <= most_bytes(version))
 }
 
 // Question 2: a start of the call's version with the right count.
-pub fn started(file: &[u8], hw: usize) -> bool
+pub fn started(file: &[u8], version: Version) -> bool
     requires { Bounded file.now }
-    ensures { result ≡ started hw file.now }
+    ensures { result ≡ started (header_words version) file.now }
 {
     let w = records::word(file, 0);
     let count = records::count_of(w) as usize;
-    (records::kind_of(w) == 1) & (records::version_of(w) == version(hw)) & (count == file.len() / 4)
+    records::is_kind(w, Kind::Start)
+        & (records::version_of(w) == number(version))
+        & (count == file.len() / 4)
 }

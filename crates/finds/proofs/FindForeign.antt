@@ -5,18 +5,20 @@ use mathlib.Core.Option.{Option, some, none, map}
 use mathlib.Core.Path.{◌≡◌, refl, sym, ap, ap₂, ◌∙◌}
 use Prim.Native.Nat.{ℕ}
 use lib.Dec.{eqb}
-use lib.ListN.{get_or, take, drop}
+use lib.ListN.{take}
+use Rattle.std.specs.Prelude.{Ok, Err}
 use Rattle.headers.specs.Sets.{Header, Set, lowest}
 use Rattle.headers.specs.Carving.{carve}
 use Rattle.answer.specs.Answer.{written_at}
 use Rattle.layout.specs.Records.{admitted_at, edge_group, port_of_edge, edge_bytes, width_in}
-use Rattle.wide.specs.Forms.{wide_words, wide_of, maybe_wide_of, stored_at}
-use Rattle.wide.specs.declared.MaybeWide.{MaybeWide}
+use Rattle.wide.specs.Forms.{wide_words, stored_at}
 use Rattle.file.specs.Accepted.{HasEdge}
 use Rattle.forwarding.specs.Verdict.{foreign_packet}
 use Rattle.model.specs.Model.{fabric_in, wide_in}
 use Rattle.events.specs.Play.{reached_words, judged_by, judged}
 use Rattle.events.specs.Asked.{find_at, world_of, played_of}
+use Rattle.events.specs.declared.Counters.{Counters}
+use Rattle.events.specs.declared.Halt.TheVariants.{Reached}
 use Rattle.events.proofs.FindEdge.{group_is, admitted_is}
 
 -- the part of a find in which every packet is foreign: all of it where the group is another, "else .. the first part of the find carved
@@ -26,9 +28,9 @@ foreign_part w edge group s = cond (eqb (edge_group edge) group) (head? (carve w
 
 module _
     {f : List ℕ} {k : ℕ} (has : HasEdge f k) (target : ℕ) {group : ℕ} (is-group : group ≡ (fabric_in f).group target)
-    (path : List ℕ) (d : ℕ) (s : Set) {w : ℕ} (is-width : w ≡ width_in f) {edge : List ℕ} (is-edge : edge ≡ edge_bytes f k)
+    (way : List ℕ) (s : Set) {w : ℕ} (is-width : w ≡ width_in f) {edge : List ℕ} (is-edge : edge ≡ edge_bytes f k)
   where
-    packet_is : foreign_packet (wide_in f) target (find_at f k path d s) ≡ map (lowest wide_words) (foreign_part w edge group s)
+    packet_is : foreign_packet (wide_in f) target (find_at f k way s) ≡ map (lowest wide_words) (foreign_part w edge group s)
     unfolding foreign_packet
     packet_is =
         rw (is-edge, is-width, is-group)
@@ -42,28 +44,22 @@ module _
         inside true o = refl
         inside false o = refl
 
-    -- what the code makes of that part, m: no part, and the trace goes on; a part, and the verdict stops at its lowest header
-    module _ (m : MaybeWide) (is-part : maybe_wide_of m ≡ foreign_part w edge group s) (counters area : List ℕ) where
-      packet_said : {b : Bool} → m.some ≡ b
-          → foreign_packet (wide_in f) target (find_at f k path d s) ≡ map (lowest wide_words) (cond b (some (wide_of m.set)) none)
-      packet_said e =
-          packet_is ∙ ap (map (lowest wide_words)) (sym is-part)
-          ∙ ap (λ (b : Bool). map (lowest wide_words) (cond b (some (wide_of m.set)) none)) e
-
-      pub judged_on : m.some ≡ false
-          → played_of 0 counters area ≡ judged (wide_in f) (width_in f) target (find_at f k path d s) (world_of counters area)
+    -- what the code makes of that part: no part, and the trace goes on; a part, and the verdict stops at its lowest header
+    module _ (counters : Counters) (area : List ℕ) where
+      pub judged_on : none ≡ foreign_part w edge group s
+          → played_of {T = Unit {0}} (Ok tt) counters area
+          ≡ judged (wide_in f) (width_in f) target (find_at f k way s) (world_of counters area)
       unfolding judged
       judged_on e =
-          ap (λ (o : Option Header). judged_by (wide_in f) (width_in f) target o (find_at f k path d s) (world_of counters area))
-          (sym (packet_said e))
+          ap (λ (o : Option Header). judged_by (wide_in f) (width_in f) target o (find_at f k way s) (world_of counters area))
+          (ap (map (lowest wide_words)) e ∙ sym packet_is)
 
-      pub judged_stops : m.some ≡ true → {written : List ℕ}
-          → written ≡ written_at 0
-          (reached_words (get_or counters 0 0) (port_of_edge f k) (drop d path) (take (width_in f) (lowest wide_words (wide_of m.set))))
-          area
-          → played_of 2 counters written ≡ judged (wide_in f) (width_in f) target (find_at f k path d s) (world_of counters area)
+      pub judged_stops : {t : Set} → some t ≡ foreign_part w edge group s → {written : List ℕ}
+          → written ≡ written_at 0 (reached_words counters.made (port_of_edge f k) way (take (width_in f) (lowest wide_words t))) area
+          → played_of {T = Unit {0}} (Err Reached) counters written
+          ≡ judged (wide_in f) (width_in f) target (find_at f k way s) (world_of counters area)
       unfolding judged
       judged_stops e h =
-          ap (played_of 2 counters) h
-          ∙ ap (λ (o : Option Header). judged_by (wide_in f) (width_in f) target o (find_at f k path d s) (world_of counters area))
-          (sym (packet_said e))
+          ap (played_of {T = Unit {0}} (Err Reached) counters) h
+          ∙ ap (λ (o : Option Header). judged_by (wide_in f) (width_in f) target o (find_at f k way s) (world_of counters area))
+          (ap (map (lowest wide_words)) e ∙ sym packet_is)

@@ -2,142 +2,120 @@
 // and its count".
 #![tactic(auto)]
 
-ghost use Rattle.std.specs.Prelude.{cond, ◌≡◌, ◌+◌, ◌*◌, ◌≤◌, eqb, length, get_or, take, drop};
+ghost use Rattle.std.specs.Prelude.{cond, ◌≡◌, ◌+◌, ◌*◌, ◌≤◌, eqb, length, take};
 ghost use mathlib.Core.List.{head?};
 ghost use Rattle.std.proofs.Math.Option.{some};
 ghost use Rattle.headers.specs.Sets.{lowest};
 ghost use Rattle.headers.specs.Carving.{carve};
 ghost use Rattle.answer.specs.Answer.{answer_words, written_at, sixteen};
-ghost use Rattle.layout.specs.Records.{Width, width_in, admitted_at, edge_group};
+ghost use Rattle.layout.specs.Records.{width_in, admitted_at, edge_group};
+ghost use Rattle.layout.specs.Versions.{header_words};
 ghost use Rattle.wide.specs.Forms.{wide_words, wide_of, maybe_wide_of, stored_at};
 ghost use Rattle.file.specs.Accepted.{HasEdge};
 ghost use Rattle.model.specs.Model.{wide_in};
 ghost use Rattle.events.specs.Play.{reached_words, judged};
-ghost use Rattle.events.specs.Asked.{Asked, Path, Room, EdgeLong, budget_of, target_of, world_of, played_of, found_by, find_at};
+ghost use Rattle.events.specs.Asked.{Asked, Way, Room, EdgeLong, budget_of, world_of, played_of, found_by, find_at};
 
-use events::{GROUP, JUDGE, MODE, PLACES, WIDTH};
+use events::{Ask, Counters, Find, Halt, Mode, PLACES};
+use layout::Version;
 use records::ADMITTED;
-use wide::{MaybeWide, WideSet};
+use stored::StoredSet;
+use wide::WideSet;
 
 // ---- the verdict
 
 // A part of the find p at an edge in which every packet is foreign to the group, if there is one: "in a foreign group" all of it,
 // "else .. the first part of the find carved by the admitted set".
-fn foreign_part(edge: &[u8], w: usize, group: u32, p: WideSet) -> MaybeWide
-    requires { EdgeLong w edge.now }
+fn foreign_part(edge: &[u8], version: Version, group: u32, p: WideSet) -> Option<WideSet>
+    requires { EdgeLong (header_words version) edge.now }
     ensures { maybe_wide_of result ≡ cond (eqb (edge_group edge.now) group)
-        (head? (carve wide_words (wide_of p) (stored_at w edge.now admitted_at))) (some (wide_of p)) }
+        (head? (carve wide_words (wide_of p) (stored_at (header_words version) edge.now admitted_at))) (some (wide_of p)) }
 {
-    if records::group(edge) == group {
-        leading::first_part(edge, ADMITTED, w, p)
-    } else {
-        MaybeWide { some: true, set: p }
+    if records::group(edge) != group {
+        return Some(p);
     }
+    let admitted = StoredSet {
+        bytes: edge,
+        at: ADMITTED,
+        version,
+    };
+    leading::first_part(&admitted, p)
 }
 
-// The entries from place d on, "16, unused ones 0", at word `at` of the area and on.
-fn put_sixteen(area: &mut [u8], at: usize, d: usize, path: &[u32; 16])
-    requires path { Path path.now d }
-    requires at_in_bounds { 4 * (at + 16) ≤ length area.old }
-    ensures { area.new ≡ written_at at (sixteen (drop d path.now)) area.old }
+// The entries on the way, "16, unused ones 0", at word `at` of the area and on.
+fn put_sixteen(area: &mut [u8], at: usize, way: &[u32])
+    requires way { Way way.now }
+    requires room { 4 * (at + 16) ≤ length area.old }
+    ensures { area.new ≡ written_at at (sixteen way.now) area.old }
 {
-    let places = &path[..];
-    let unused = [0u32; 16];
-    answer::put_words(area, at, &places[d..]);
-    answer::put_words(area, at + (PLACES - d), &unused[..d]);
+    let unused = [0; PLACES];
+    answer::put_words(area, at, way);
+    answer::put_words(area, at + way.len(), &unused[..PLACES - way.len()]);
 }
 
 // The words of a verdict that is reached by the lowest header of a set.
-fn put_reached(
-    area: &mut [u8],
-    w: usize,
-    units: u32,
-    port: u32,
-    d: usize,
-    path: &[u32; 16],
-    set: WideSet,
-)
-    requires width { Width w }
-    requires path { Path path.now d }
-    requires w_in_bounds { 4 * answer_words w ≤ length area.old }
+fn put_reached(area: &mut [u8], version: Version, units: u32, port: u32, way: &[u32], set: WideSet)
+    requires way { Way way.now }
+    requires room { 4 * answer_words (header_words version) ≤ length area.old }
     ensures { area.new ≡ written_at 0
-        (reached_words units port (drop d path.now) (take w (lowest wide_words (wide_of set)))) area.old }
+        (reached_words units port way.now (take (header_words version) (lowest wide_words (wide_of set)))) area.old }
 {
-    let hops = (PLACES - d) as u32;
-    let header = set.lowest();
-    answer::put_words(area, 0, &[1, units, port, hops]);
-    answer::put_header(area, 4, w, header);
-    put_sixteen(area, 4 + w, d, path);
+    answer::put_words(area, 0, &[1, units, port, way.len() as u32]);
+    answer::put_header(area, 4, version, set.lowest());
+    put_sixteen(area, 4 + version.words(), way);
 }
 
-// The verdict stops at a find with a foreign packet. The words of `ask` come as a slice, which shows that each fits 32 bits: so does
-// the budget, and with it the units.
+// The verdict stops at a find with a foreign packet.
 fn judge(
     file: &[u8],
-    ask: &[u32],
+    ask: Ask,
     area: &mut [u8],
-    k: usize,
-    p: WideSet,
-    d: usize,
-    path: &[u32; 16],
-    counters: &[u64; 2],
-) -> u32
-    requires asked { Asked file.now ask.now }
-    requires has_edge { HasEdge file.now k }
-    requires path { Path path.now d }
-    requires ask_len { length ask.now ≡ 7 }
-    requires counters_bound { get_or counters.now 0 0 ≤ budget_of ask.now }
-    requires file_in_bounds { 4 * answer_words (width_in file.now) ≤ length area.old }
-    ensures { played_of result counters.now area.new
-        ≡ judged (wide_in file.now) (width_in file.now) (target_of ask.now)
-        (find_at file.now k path.now d (wide_of p)) (world_of counters.now area.old) }
+    find: &Find,
+    counters: Counters,
+) -> Result<(), Halt>
+    requires asked { Asked file.now ask }
+    requires has_edge { HasEdge file.now find.now.edge }
+    requires way { Way find.now.way.now }
+    requires made_within { counters.made ≤ budget_of ask }
+    requires room { 4 * answer_words (width_in file.now) ≤ length area.old }
+    ensures { played_of result counters area.new
+        ≡ judged (wide_in file.now) (width_in file.now) ask.target
+        (find_at file.now find.now.edge find.now.way.now (wide_of find.now.set)) (world_of counters area.old) }
 {
-    let edge = file::edge(file, k);
-    let w = units::number(ask[WIDTH]);
-    let foreign = foreign_part(edge, w, ask[GROUP], p);
-    if !foreign.some {
-        return 0;
+    let edge = file::edge_at(file, find.edge);
+    match foreign_part(edge, ask.version, ask.group, find.set) {
+        None => Ok(()),
+        Some(set) => {
+            let port = listing::port_at(file, find.edge);
+            put_reached(area, ask.version, counters.made as u32, port, find.way, set);
+            Err(Halt::Reached)
+        }
     }
-    let set = foreign.set;
-    let units = counters[0] as u32;
-    put_reached(area, w, units, listing::port_at(file, k), d, path, set);
-    2
 }
 
 // ---- by the mode
 
-// The find p at edge k, with the entries of the path from place d on. 0: the trace goes on, 2: the verdict stops.
+// A find is listed or judged, and the trace goes on or is over: both write to the same area and count alike, which two closures would have
+// to be lent at every find.
 pub fn found(
     file: &[u8],
-    ask: &[u32; 7],
+    ask: &Ask,
     area: &mut [u8],
-    k: usize,
-    p: WideSet,
-    d: usize,
-    path: &[u32; 16],
-    counters: &mut [u64; 2],
-) -> u32
+    find: &Find,
+    counters: &mut Counters,
+) -> Result<(), Halt>
     requires asked { Asked file.now ask.now }
-    requires has_edge { HasEdge file.now k }
-    requires path { Path path.now d }
+    requires has_edge { HasEdge file.now find.now.edge }
+    requires way { Way find.now.way.now }
     requires room { Room ask.now counters.old area.old }
-    ensures area_after { played_of result counters.new area.new ≡ found_by file.now ask.now
-        (find_at file.now k path.now d (wide_of p)) (world_of counters.old area.old) }
-    ensures counters_len { length counters.new ≡ 2 }
+    ensures { played_of result counters.new area.new ≡ found_by file.now ask.now
+        (find_at file.now find.now.edge find.now.way.now (wide_of find.now.set)) (world_of counters.old area.old) }
 {
-    let mode = ask[MODE];
-    if mode == JUDGE {
-        return judge(file, ask, area, k, p, d, path, counters);
+    match ask.mode {
+        Mode::List => {
+            listing::list_find(file, area, ask.version, find, counters);
+            Ok(())
+        }
+        Mode::Judge => judge(file, *ask, area, find, *counters),
     }
-    listing::list_find(
-        file,
-        area,
-        units::asked(ask, WIDTH),
-        k,
-        p,
-        d,
-        path,
-        counters,
-    );
-    0
 }

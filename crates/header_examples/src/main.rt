@@ -3,71 +3,61 @@
 
 use actions::Action;
 use headers::Transfer;
-use sets::{HeaderSet, MaybeSet};
-use std::io;
+use sets::HeaderSet;
 use std::io::Print;
+use std::{fmt, io};
 
-fn put_word(rt: &impl Print, x: u32) -> io::Result<()> {
-    print!(rt; " {x:08x}")
-}
+// Words in hexadecimal digits, a space before each.
+#[derive(Drop)]
+struct Words([u32; 4]);
 
-fn put_words(rt: &impl Print, x: [u32; 4]) -> io::Result<()> {
-    put_word(rt, x[0])?;
-    put_word(rt, x[1])?;
-    put_word(rt, x[2])?;
-    put_word(rt, x[3])
-}
-
-fn put_set(rt: &impl Print, s: HeaderSet) -> io::Result<()> {
-    let care = s.care;
-    let value = s.value;
-    put_words(rt, care)?;
-    print!(rt; " /")?;
-    put_words(rt, value)
-}
-
-fn end(rt: &impl Print) -> io::Result<()> {
-    println!(rt; "")
-}
-
-fn put_maybe(rt: &impl Print, label: &str, m: MaybeSet) -> io::Result<()> {
-    print!(rt; "{label}")?;
-    if m.some {
-        let s = m.set;
-        put_set(rt, s)?;
-    } else {
-        print!(rt; " empty")?;
-    }
-    end(rt)
-}
-
-fn put_flag(rt: &impl Print, label: &str, yes: bool) -> io::Result<()> {
-    if yes {
-        println!(rt; "{label} yes")
-    } else {
-        println!(rt; "{label} no")
+impl fmt::Display for Words {
+    fn fmt<W: fmt::Write>(&self, f: &mut fmt::Formatter<W>) -> fmt::Result {
+        for w in self.0 {
+            write!(f, " {w:08x}")?;
+        }
+        Ok(())
     }
 }
 
-fn put_header(rt: &impl Print, label: &str, h: [u32; 4]) -> io::Result<()> {
-    print!(rt; "{label}")?;
-    put_words(rt, h)?;
-    end(rt)
+// A set as care / value.
+#[derive(Drop)]
+struct Set(HeaderSet);
+
+impl fmt::Display for Set {
+    fn fmt<W: fmt::Write>(&self, f: &mut fmt::Formatter<W>) -> fmt::Result {
+        write!(f, "{} /{}", Words(self.0.care), Words(self.0.value))
+    }
 }
 
-// The parts of p carved by b, a line each, in their order.
+// A set, or empty.
+#[derive(Drop)]
+struct Answer(Option<HeaderSet>);
+
+impl fmt::Display for Answer {
+    fn fmt<W: fmt::Write>(&self, f: &mut fmt::Formatter<W>) -> fmt::Result {
+        match self.0 {
+            Some(s) => write!(f, "{}", Set(s)),
+            None => write!(f, " empty"),
+        }
+    }
+}
+
+fn yes_or_no(yes: bool) -> &'static str {
+    if yes { "yes" } else { "no" }
+}
+
+// The parts of p carved by b, a line each, in their order. A turn makes the bits of the next, so this is no `for`.
 fn put_parts(rt: &impl Print, label: &str, p: HeaderSet, b: HeaderSet) -> io::Result<()> {
     println!(rt; "{label}")?;
     if !p.overlaps(b) {
-        put_set(rt, p)?;
-        return end(rt);
+        return println!(rt; "{}", Set(p));
     }
     let mut rest = p;
     let mut free = rest.free(b);
     while !words::none_set(free) {
         let bit = words::first_bit(free);
-        put_set(rt, rest.unlike(bit, b))?;
-        end(rt)?;
+        println!(rt; "{}", Set(rest.unlike(bit, b)))?;
         let later = words::outside(bit, free);
         rest = rest.like(bit, b);
         free = later;
@@ -98,35 +88,30 @@ fn malformed() -> HeaderSet {
 }
 
 fn members(rt: &impl Print) -> io::Result<()> {
-    put_flag(
-        rt,
-        "subnet holds 10.0.1.7:",
-        subnet().contains([1, 0x0a00_0107, 0, 0]),
+    println!(rt;
+        "subnet holds 10.0.1.7: {}",
+        yes_or_no(subnet().contains([1, 0x0a00_0107, 0, 0]))
     )?;
-    put_flag(
-        rt,
-        "subnet holds 10.0.2.7:",
-        subnet().contains([1, 0x0a00_0207, 0, 0]),
+    println!(rt;
+        "subnet holds 10.0.2.7: {}",
+        yes_or_no(subnet().contains([1, 0x0a00_0207, 0, 0]))
     )?;
-    put_flag(
-        rt,
-        "all wild holds all ones:",
-        HeaderSet::all_wild().contains([0xffff_ffff; 4]),
+    println!(rt;
+        "all wild holds all ones: {}",
+        yes_or_no(HeaderSet::all_wild().contains([0xffff_ffff; 4]))
     )?;
-    put_flag(
-        rt,
-        "malformed holds ff:",
-        malformed().contains([7, 7, 0xff, 7]),
+    println!(rt;
+        "malformed holds ff: {}",
+        yes_or_no(malformed().contains([7, 7, 0xff, 7]))
     )?;
-    put_flag(
-        rt,
-        "malformed holds 1fe:",
-        malformed().contains([7, 7, 0x1fe, 7]),
+    println!(rt;
+        "malformed holds 1fe: {}",
+        yes_or_no(malformed().contains([7, 7, 0x1fe, 7]))
     )?;
-    put_flag(rt, "subnet is tidy:", subnet().is_tidy())?;
-    put_flag(rt, "malformed is tidy:", malformed().is_tidy())?;
-    put_header(rt, "lowest of subnet:", subnet().lowest())?;
-    put_header(rt, "lowest of malformed:", malformed().lowest())
+    println!(rt; "subnet is tidy: {}", yes_or_no(subnet().is_tidy()))?;
+    println!(rt; "malformed is tidy: {}", yes_or_no(malformed().is_tidy()))?;
+    println!(rt; "lowest of subnet:{}", Words(subnet().lowest()))?;
+    println!(rt; "lowest of malformed:{}", Words(malformed().lowest()))
 }
 
 fn meetings(rt: &impl Print) -> io::Result<()> {
@@ -134,12 +119,14 @@ fn meetings(rt: &impl Print) -> io::Result<()> {
         care: [0, 0xffff_ffff, 0, 0],
         value: [0, 0x0a00_0207, 0, 0],
     };
-    put_maybe(rt, "subnet and web:", subnet().intersect(web()))?;
-    put_maybe(rt, "subnet and a host outside:", subnet().intersect(narrow))?;
-    put_maybe(
-        rt,
-        "web and all wild:",
-        web().intersect(HeaderSet::all_wild()),
+    println!(rt; "subnet and web:{}", Answer(subnet().intersect(web())))?;
+    println!(rt;
+        "subnet and a host outside:{}",
+        Answer(subnet().intersect(narrow))
+    )?;
+    println!(rt;
+        "web and all wild:{}",
+        Answer(web().intersect(HeaderSet::all_wild()))
     )
 }
 
@@ -153,37 +140,31 @@ fn mail(transfer: Transfer) -> Action {
 }
 
 // The headers that an action takes into a set, whatever they match.
-fn undone(action: Action, t: HeaderSet) -> MaybeSet {
+fn undone(action: Action, t: HeaderSet) -> Option<HeaderSet> {
     action.undo(t, HeaderSet::all_wild())
 }
 
 fn rewrites(rt: &impl Print) -> io::Result<()> {
-    put_header(
-        rt,
-        "to port 25:",
-        mail(Transfer::Keep).apply([9, 9, 0x0001_0050, 6]),
+    println!(rt;
+        "to port 25:{}",
+        Words(mail(Transfer::Keep).apply([9, 9, 0x0001_0050, 6]))
     )?;
-    put_header(
-        rt,
-        "no rewrite:",
-        Action::no_rewrite().apply([9, 9, 0x0001_0050, 6]),
+    println!(rt;
+        "no rewrite:{}",
+        Words(Action::no_rewrite().apply([9, 9, 0x0001_0050, 6]))
     )?;
-    put_maybe(
-        rt,
-        "into port 25:",
-        undone(
-            mail(Transfer::Keep),
-            HeaderSet {
-                care: [0, 0, 0xffff, 0xff],
-                value: [0, 0, 25, 6],
-            },
-        ),
+    let smtp = HeaderSet {
+        care: [0, 0, 0xffff, 0xff],
+        value: [0, 0, 25, 6],
+    };
+    println!(rt;
+        "into port 25:{}",
+        Answer(undone(mail(Transfer::Keep), smtp))
     )?;
-    put_maybe(rt, "into web:", undone(mail(Transfer::Keep), web()))?;
-    put_maybe(
-        rt,
-        "no rewrite into web:",
-        undone(Action::no_rewrite(), web()),
+    println!(rt; "into web:{}", Answer(undone(mail(Transfer::Keep), web())))?;
+    println!(rt;
+        "no rewrite into web:{}",
+        Answer(undone(Action::no_rewrite(), web()))
     )
 }
 
@@ -196,42 +177,35 @@ fn to_subnet(network: u32) -> HeaderSet {
 }
 
 fn transfers(rt: &impl Print) -> io::Result<()> {
-    put_header(
-        rt,
-        "copied, to port 25:",
-        mail(Transfer::Copy).apply([9, 7, 0x0001_0050, 6]),
+    println!(rt;
+        "copied, to port 25:{}",
+        Words(mail(Transfer::Copy).apply([9, 7, 0x0001_0050, 6]))
     )?;
-    put_header(
-        rt,
-        "swapped, to port 25:",
-        mail(Transfer::Swap).apply([9, 7, 0x0001_0050, 6]),
+    println!(rt;
+        "swapped, to port 25:{}",
+        Words(mail(Transfer::Swap).apply([9, 7, 0x0001_0050, 6]))
     )?;
     let inside = to_subnet(0x0a00_0000);
     let outside = to_subnet(0x0b00_0000);
-    put_maybe(
-        rt,
-        "copied to the subnet from inside:",
-        undone(mail(Transfer::Copy), inside),
+    println!(rt;
+        "copied to the subnet from inside:{}",
+        Answer(undone(mail(Transfer::Copy), inside))
     )?;
-    put_maybe(
-        rt,
-        "copied to the subnet from outside:",
-        undone(mail(Transfer::Copy), outside),
+    println!(rt;
+        "copied to the subnet from outside:{}",
+        Answer(undone(mail(Transfer::Copy), outside))
     )?;
-    put_maybe(
-        rt,
-        "swapped to the subnet from outside:",
-        undone(mail(Transfer::Swap), outside),
+    println!(rt;
+        "swapped to the subnet from outside:{}",
+        Answer(undone(mail(Transfer::Swap), outside))
     )?;
-    put_maybe(
-        rt,
-        "copied to the subnet from inside, if web:",
-        mail(Transfer::Copy).undo(inside, web()),
+    println!(rt;
+        "copied to the subnet from inside, if web:{}",
+        Answer(mail(Transfer::Copy).undo(inside, web()))
     )?;
-    put_maybe(
-        rt,
-        "swapped to the subnet from outside, if in the subnet:",
-        mail(Transfer::Swap).undo(outside, subnet()),
+    println!(rt;
+        "swapped to the subnet from outside, if in the subnet:{}",
+        Answer(mail(Transfer::Swap).undo(outside, subnet()))
     )
 }
 

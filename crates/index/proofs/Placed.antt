@@ -1,15 +1,15 @@
 -- The places of an index on its way: after every edge and every link they are as the records passed have it. Assumes nothing.
-use mathlib.Core.List.{List}
-use mathlib.Core.Path.{◌≡◌, refl, sym, ap, ◌∙◌}
-use Prim.Native.Nat.{ℕ, zero, suc, ◌+◌, ◌<◌}
+use mathlib.Core.List.{List, ◌++◌}
+use mathlib.Core.Path.{◌≡◌, refl, sym, ap, ◌∙◌, subst}
+use Prim.Native.Nat.{ℕ, zero, suc, ◌+◌, ◌-◌, ◌≤◌, ◌<◌}
 use native.Mathlib.Decide.{ℕ_discrete}
 use native.Mathlib.Omega.{arith}
-use borrow.Author.Count.{below_more}
 use borrow.Author.Tests.{eq-eqb, ne_eqb, lt-ltb}
-use lib.ListN.{get_or, set, length-set, replicate, length-replicate, get_or-replicate}
-use lib.Seq.{get_or-set_same, get_or-set_other}
+use lib.ListN.{length, get_or, set, take, drop, length-set, replicate, length-replicate, get_or-replicate, get_or-append}
+use lib.Seq.{get_or-set_same, get_or-set_other, length-take-le}
+use Rattle.std.proofs.Common.{length-append, length-drop, get_or-drop, get_or-append-add}
 use Rattle.layout.specs.Records.{port_of_edge, from_of_link, to_of_link, recent}
-use Rattle.layout.specs.declared.Shape.{Shape}
+use Rattle.layout.specs.Shape.{Shape}
 use Rattle.questions.specs.Tables.{number}
 use Rattle.questions.proofs.Lists.{recent_more, recent_long, number_has}
 use Rattle.file.specs.Accepted.{Accepted}
@@ -30,15 +30,28 @@ placed_none = record {
   unused = λ i _ l. get_or-replicate {A = ℕ} index_long i no_entry 0 l;
 }
 
--- one port more is cleared
-pub placed_cleared : (x : ℕ) (cells : List ℕ) → x < 4096 → Placed no_place x cells → Placed no_place (x + 1) (set cells x 0)
-placed_cleared x cells l p = record {
-  long = length-set cells x 0 ∙ p.long;
-  places = below_more (λ y. get_or (set cells x 0) y 0 ≡ 0) x
-      (λ y k. get_or-set_other cells x y 0 0 (λ z. omega arith) ∙ p.places y k)
-      (get_or-set_same cells x 0 0 (omega arith));
-  unused = λ i k m. get_or-set_other cells x i 0 0 (λ z. omega arith) ∙ p.unused i (omega arith) m;
+-- n cells in front are cleared
+cleared : (n : ℕ) (front cells : List ℕ) → n ≤ 4096 → front ≡ replicate n 0 → Placed no_place 0 cells
+    → Placed no_place n (front ++ drop n cells)
+cleared n front cells small is p = record {
+  long = length-append front (drop n cells) ∙ omega (arith, long, length-drop n cells, p.long);
+  places = λ y l. get_or-append front (drop n cells) 0 y (omega (arith, long)) ∙ rw is (get_or-replicate {A = ℕ} n y 0 0 l);
+  unused = λ i l m.
+      let at : i ≡ length front + (i - n) = omega (arith, long) in
+      let here : n + (i - n) ≡ i = omega arith in
+      rw at (get_or-append-add front (drop n cells) (i - n) 0 ∙ get_or-drop n cells (i - n) 0
+      ∙ ap (λ (j : ℕ). get_or cells j 0) here ∙ p.unused i (omega arith) m);
 }
+  where
+    long : length front ≡ n
+    long = ap length is ∙ length-replicate {A = ℕ} n 0
+
+-- the cells of all ports
+pub placed_cleared : (front cells : List ℕ) → front ≡ replicate (length (take 4096 cells)) 0 → Placed no_place 0 cells
+    → Placed no_place 4096 (front ++ drop 4096 cells)
+placed_cleared front cells is p =
+    let all : length (take 4096 cells) ≡ 4096 = length-take-le 4096 cells (omega (arith, p.long)) in
+    cleared 4096 front cells (omega arith) (subst (λ (n : ℕ). front ≡ replicate n 0) all is) p
 
 -- ---- the place of one port is another
 

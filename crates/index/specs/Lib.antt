@@ -1,3 +1,4 @@
 pub mod Chains
 pub mod Index
 pub mod Building
+pub mod Places

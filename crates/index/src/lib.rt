@@ -2,21 +2,18 @@
 #![tactic(auto)]
 
 ghost use Rattle.std.specs.Prelude.{◌≡◌, suc, ◌+◌, ◌<◌, get_or, replicate};
-ghost use Rattle.file.specs.Accepted.{Accepted};
 ghost use Rattle.index.specs.Chains.{no_entry};
 ghost use Rattle.index.specs.Index.{Index, place_at, first_out, first_in, next_out, next_in, ranks, index_long};
 ghost use Rattle.index.specs.Building.{no_place, place_after, Placed, Partly, pushed};
+ghost use Rattle.index.specs.Places.{number_of_place, IsFormed, chain_number, IsEntry};
 
-use layout::Shape;
+use file::Fabric;
 
-// What stands for 'no entry', at the end of a chain.
-pub const NO_ENTRY: usize = 512;
-
-// What a cell holds that is not used yet.
+// What a cell holds that is not used yet: at the end of a chain it stays. A cell has two bytes, which an Option would double.
 pub const UNUSED: u16 = 512;
 
 // The place of the port of edge k is k more than this; every port is less.
-pub const FIRST_EDGE: usize = 4096;
+const FIRST_EDGE: usize = 4096;
 
 // Where the index's parts after the places begin: the first entry with an out-port, with an in-port, the next entry likewise, and an
 // entry's priority.
@@ -30,61 +27,58 @@ const NEXT_IN: usize = 12800;
 
 const RANKS: usize = 13312;
 
-// How many cells the index has.
+// How many cells the index has: an array of a fixed length, as nothing is allocated.
 pub const CELLS: usize = 13824;
 
-// ---- making the index
+// Where a part at an in-port comes from: from nowhere, from the link that starts at a port, or from an edge by its number.
+#[derive(Clone, Copy)]
+pub enum Place {
+    Nowhere,
+    Port(usize),
+    Edge(usize),
+}
+
+// ---- making the index: what its cells say changes from step to step, so clauses say it
 
 // Place 0, where a part comes from nowhere, at every port.
 fn clear_places(index: &mut [u16; CELLS])
     requires { Placed no_place 0 index.old }
     ensures { Placed no_place 4096 index.new }
 {
-    let mut x: usize = 0;
-    while x < FIRST_OUT {
-        index[x] = 0;
-        x += 1;
-    }
+    index[..FIRST_OUT].fill(0);
 }
 
 // The places of the edge ports.
-fn edge_places(file: &[u8], shape: Shape, index: &mut [u16; CELLS])
-    requires accepted { Accepted file.now shape }
-    requires placed { Placed no_place 4096 index.old }
-    ensures { Placed (place_after file.now shape.edges 0) 4096 index.new }
+fn edge_places(fabric: &Fabric, index: &mut [u16; CELLS])
+    requires { Placed no_place 4096 index.old }
+    ensures { Placed (place_after fabric.now.file.now fabric.now.counts.edges 0) 4096 index.new }
 {
-    let mut k: usize = 0;
-    while k < shape.edges {
-        let port = records::port(file::edge(file, k));
+    for k in 0..fabric.counts.edges {
+        let port = records::port(fabric.edge(k));
         index[port as usize] = (FIRST_EDGE + k) as u16;
-        k += 1;
     }
 }
 
 // The places of the ports where a link ends, none of which is an edge port.
-fn link_places(file: &[u8], shape: Shape, index: &mut [u16; CELLS])
-    requires accepted { Accepted file.now shape }
-    requires placed { Placed (place_after file.now shape.edges 0) 4096 index.old }
-    ensures { Placed (place_at file.now) 4096 index.new }
+fn link_places(fabric: &Fabric, index: &mut [u16; CELLS])
+    requires { Placed (place_after fabric.now.file.now fabric.now.counts.edges 0) 4096 index.old }
+    ensures { Placed (place_at fabric.now.file.now) 4096 index.new }
 {
-    let mut l: usize = 0;
-    while l < shape.links {
-        let from = file::link_from(file, shape, l);
-        let to = file::link_to(file, shape, l);
+    for l in 0..fabric.counts.links {
+        let from = fabric.link_from(l);
+        let to = fabric.link_to(l);
         index[to as usize] = from as u16;
-        l += 1;
     }
 }
 
 // The places, over an array that holds 'no entry' everywhere: by the records there are, as ports are many and edges and links few.
-fn places(file: &[u8], shape: Shape, index: &mut [u16; CELLS])
-    requires accepted { Accepted file.now shape }
-    requires placed { Placed no_place 0 index.old }
-    ensures { Placed (place_at file.now) 4096 index.new }
+fn places(fabric: &Fabric, index: &mut [u16; CELLS])
+    requires { Placed no_place 0 index.old }
+    ensures { Placed (place_at fabric.now.file.now) 4096 index.new }
 {
     clear_places(index);
-    edge_places(file, shape, index);
-    link_places(file, shape, index);
+    edge_places(fabric, index);
+    link_places(fabric, index);
 }
 
 // Entry e goes to the front of a chain.
@@ -99,13 +93,12 @@ fn push(index: &mut [u16; CELLS], first: usize, next: usize, e: usize)
 }
 
 // Entry e goes to the front of its two chains, and its priority into its cell.
-fn chain_entry(file: &[u8], shape: Shape, e: usize, index: &mut [u16; CELLS])
-    requires accepted { Accepted file.now shape }
-    requires e_lt_entries { e < shape.entries }
-    requires partly { Partly file.now (suc e) index.old }
-    ensures { Partly file.now e index.new }
+fn chain_entry(fabric: &Fabric, e: usize, index: &mut [u16; CELLS])
+    requires e_lt_entries { e < fabric.now.counts.entries }
+    requires partly { Partly fabric.now.file.now (suc e) index.old }
+    ensures { Partly fabric.now.file.now e index.new }
 {
-    let x = file::entry(file, shape, e);
+    let x = fabric.entry(e);
     let out = records::out_port(x) as usize;
     let into = records::in_port(x) as usize;
     let rank = records::priority(x);
@@ -115,75 +108,96 @@ fn chain_entry(file: &[u8], shape: Shape, e: usize, index: &mut [u16; CELLS])
 }
 
 // The chains, from the last entry to the first, so that each runs in file order.
-fn chains(file: &[u8], shape: Shape, index: &mut [u16; CELLS])
-    requires accepted { Accepted file.now shape }
-    requires partly { Partly file.now shape.entries index.old }
-    ensures { Index file.now index.new }
+fn chains(fabric: &Fabric, index: &mut [u16; CELLS])
+    requires { Partly fabric.now.file.now fabric.now.counts.entries index.old }
+    ensures { Index fabric.now.file.now index.new }
 {
-    let mut e = shape.entries;
-    while 0 < e {
-        e -= 1;
-        chain_entry(file, shape, e, index);
+    for e in (0..fabric.counts.entries).rev() {
+        chain_entry(fabric, e, index);
     }
 }
 
 // The index of an accepted file, made in the caller's array, in which no cell is used yet.
-pub fn fill(file: &[u8], shape: Shape, index: &mut [u16; CELLS])
-    requires accepted { Accepted file.now shape }
-    requires index_value { index.old ≡ replicate index_long no_entry }
-    ensures { Index file.now index.new }
+pub fn fill(fabric: &Fabric, index: &mut [u16; CELLS])
+    requires { index.old ≡ replicate index_long no_entry }
+    ensures { Index fabric.now.file.now index.new }
 {
-    places(file, shape, index);
-    chains(file, shape, index);
+    places(fabric, index);
+    chains(fabric, index);
 }
 
-// ---- reading the index
+// ---- reading the index: ports and entries are plain numbers where they come from, so each call asks that they are in range
 
-// What is read behind a reference is known to fit its type once it is a parameter.
-fn wide(v: u16) -> usize
-    ensures { (result ≡ v) × (result < 65536) }
+// What the cell of a place says. It promises more than a From could: that the place is formed.
+fn place_of(cell: u16) -> Place
+    ensures value { number_of_place result ≡ cell }
+    ensures formed { IsFormed result }
 {
-    v as usize
+    let number = usize::from(cell);
+    if number == 0 {
+        Place::Nowhere
+    } else if number < FIRST_EDGE {
+        Place::Port(number)
+    } else {
+        Place::Edge(number - FIRST_EDGE)
+    }
+}
+
+// What a cell of a chain says, and that it is no entry past the last.
+fn entry_of(cell: u16) -> Option<usize>
+    ensures value { chain_number result ≡ cell }
+    ensures entry { IsEntry result }
+{
+    if cell == UNUSED {
+        None
+    } else {
+        Some(usize::from(cell))
+    }
 }
 
 // Where a part at this in-port comes from.
-pub fn place_at(index: &[u16; CELLS], port: usize) -> usize
+pub fn place_at(index: &[u16; CELLS], port: usize) -> Place
     requires { port < 4096 }
-    ensures { result ≡ get_or index.now port 0 }
+    ensures value { number_of_place result ≡ get_or index.now port 0 }
+    ensures formed { IsFormed result }
 {
-    wide(index[port])
+    place_of(index[port])
 }
 
 // The first entry with this out-port.
-pub fn first_out(index: &[u16; CELLS], port: usize) -> usize
+pub fn first_out(index: &[u16; CELLS], port: usize) -> Option<usize>
     requires { port < 4096 }
-    ensures { result ≡ get_or index.now (first_out + port) 0 }
+    ensures value { chain_number result ≡ get_or index.now (first_out + port) 0 }
+    ensures entry { IsEntry result }
 {
-    wide(index[FIRST_OUT + port])
+    entry_of(index[FIRST_OUT + port])
 }
 
 // The first entry with this in-port.
-pub fn first_in(index: &[u16; CELLS], port: usize) -> usize
+pub fn first_in(index: &[u16; CELLS], port: usize) -> Option<usize>
     requires { port < 4096 }
-    ensures { result ≡ get_or index.now (first_in + port) 0 }
+    ensures value { chain_number result ≡ get_or index.now (first_in + port) 0 }
+    ensures entry { IsEntry result }
 {
-    wide(index[FIRST_IN + port])
+    entry_of(index[FIRST_IN + port])
 }
 
 // The next entry with the out-port of entry e.
-pub fn next_out(index: &[u16; CELLS], e: usize) -> usize
+pub fn next_out(index: &[u16; CELLS], e: usize) -> Option<usize>
     requires { e < 512 }
-    ensures { result ≡ get_or index.now (next_out + e) 0 }
+    ensures value { chain_number result ≡ get_or index.now (next_out + e) 0 }
+    ensures entry { IsEntry result }
 {
-    wide(index[NEXT_OUT + e])
+    entry_of(index[NEXT_OUT + e])
 }
 
 // The next entry with the in-port of entry e.
-pub fn next_in(index: &[u16; CELLS], e: usize) -> usize
+pub fn next_in(index: &[u16; CELLS], e: usize) -> Option<usize>
     requires { e < 512 }
-    ensures { result ≡ get_or index.now (next_in + e) 0 }
+    ensures value { chain_number result ≡ get_or index.now (next_in + e) 0 }
+    ensures entry { IsEntry result }
 {
-    wide(index[NEXT_IN + e])
+    entry_of(index[NEXT_IN + e])
 }
 
 // The priority of entry e.
@@ -191,5 +205,5 @@ pub fn rank(index: &[u16; CELLS], e: usize) -> u32
     requires { e < 512 }
     ensures { result ≡ get_or index.now (ranks + e) 0 }
 {
-    wide(index[RANKS + e]) as u32
+    u32::from(index[RANKS + e])
 }

@@ -1,98 +1,80 @@
 // What the program's input asks: a query and a fabric, in either version. Document 01, "The program", and document 02, 2.6.
 #![tactic(auto)]
 
-ghost use Rattle.std.specs.Prelude.{◌&&◌, ◌≡◌, ◌≤◌, leb, length};
-ghost use Rattle.std.proofs.Math.Option.{some};
-ghost use Rattle.sets.specs.Forms.{set_of};
+ghost use Rattle.std.specs.Prelude.{◌≡◌, ◌*◌, ◌^◌, ◌<◌, ◌≤◌, length};
 ghost use Rattle.answer.specs.Answer.{outcome};
-ghost use Rattle.wide.specs.Forms.{wide_of};
-ghost use Rattle.input.specs.Program.{asked_in, call_named, program_call};
+ghost use Rattle.layout.specs.Versions.{header_words};
+ghost use Rattle.wide.specs.Forms.{wide_of, narrowed, Fits};
+ghost use Rattle.calls.specs.Codes.{code_at};
+ghost use Rattle.input.specs.Program.{width_marked, asked_in, query_words, program_call};
 
 use fabric::Call;
-use sets::HeaderSet;
-use wide::WideSet;
+use layout::Version;
+use questions::{No, Refusal};
+use wide::{Query, WideSet};
 
 // A first word from this on marks version 2: bit 31.
-const VERSION_2: u32 = 0x8000_0000;
+const MARK: u32 = 0x8000_0000;
 
-// The bytes of a query, by the version: four words, a care and a value.
-const QUERY: usize = 48;
+// The words of a query before its set.
+const NUMBERS: usize = 4;
 
-const QUERY_V2: usize = 80;
-
-// The asked set: words 4 to 11 of the query.
-fn asked(input: &[u8]) -> HeaderSet
-    requires { 48 ≤ length input.now }
-    ensures { set_of result ≡ asked_in 4 input.now }
+// The version that the first word marks.
+fn marked(first: u32) -> Version
+    ensures { header_words result ≡ width_marked first }
 {
-    HeaderSet {
-        care: records::four_at(input, 4),
-        value: records::four_at(input, 8),
+    if first < MARK {
+        Version::One
+    } else {
+        Version::Two
     }
 }
 
-// Words 4 to 19.
-fn asked_v2(input: &[u8]) -> WideSet
-    requires { 80 ≤ length input.now }
-    ensures { wide_of result ≡ asked_in 8 input.now }
+// The bytes of a query: four words, a care and a value.
+fn query_bytes(version: Version) -> usize
+    ensures { result ≡ 4 * query_words (header_words version) }
+{
+    4 * (NUMBERS + 2 * version.words())
+}
+
+// The asked set: the words of the query after the numbers.
+fn asked(input: &[u8], version: Version) -> WideSet
+    requires { 4 * query_words (header_words version) ≤ length input.now }
+    ensures fits { Fits (header_words version) (wide_of result) }
+    ensures narrowed { narrowed (header_words version) (wide_of result) ≡ asked_in (header_words version) input.now }
 {
     WideSet {
-        low: HeaderSet {
-            care: records::four_at(input, 4),
-            value: records::four_at(input, 12),
-        },
-        high: HeaderSet {
-            care: records::four_at(input, 8),
-            value: records::four_at(input, 16),
-        },
+        low: records::low_at(input, NUMBERS, version),
+        high: records::high_at(input, NUMBERS, version),
     }
 }
 
-// Does a call have this number?
-fn is_named(number: u32) -> bool
-    ensures { result ≡ (leb 1 number && leb number 3) }
+// The call that the input asks for, made on the area; where it asks for none, a no to question 14.
+pub fn call(input: &[u8], area: &mut [u8]) -> Result<u64, No>
+    ensures answers { outcome (code_at result) area.new ≡ program_call input.now area.old }
+    ensures few { code_at result < 2 ^ 64 }
 {
-    (1 <= number) & (number <= 3)
-}
-
-// The call that has this number.
-fn named(number: u32) -> Call
-    requires { (1 ≤ number) × (number ≤ 3) }
-    ensures { call_named number ≡ some result }
-{
-    if number == 1 {
-        return Call::Verdict;
-    }
-    if number == 2 {
-        return Call::List;
-    }
-    Call::Run
-}
-
-// The call that the input asks for, made on the area; 14 where it asks for none.
-pub fn call(input: &[u8], area: &mut [u8]) -> u64
-    ensures { outcome result area.new ≡ program_call input.now area.old }
-{
-    if input.len() < QUERY {
-        return 14;
+    let unknown = No {
+        refusal: Refusal::Input,
+        place: 0,
+    };
+    if input.len() < query_bytes(Version::One) {
+        return Err(unknown);
     }
     let first = records::word(input, 0);
-    let number = first % VERSION_2;
-    if !is_named(number) {
-        return 14;
+    let version = marked(first);
+    let bytes = query_bytes(version);
+    if input.len() < bytes {
+        return Err(unknown);
     }
-    let port = records::word(input, 1);
-    let limit = records::word(input, 2);
-    let budget = records::word(input, 3);
-    if first < VERSION_2 {
-        let set = asked(input);
-        let fabric = &input[QUERY..];
-        return fabric::make(named(number), fabric, area, port, limit, budget, set);
-    }
-    if input.len() < QUERY_V2 {
-        return 14;
-    }
-    let set = asked_v2(input);
-    let fabric = &input[QUERY_V2..];
-    fabric::make_v2(named(number), fabric, area, port, limit, budget, set)
+    let Ok(call) = Call::try_from(first % MARK) else {
+        return Err(unknown);
+    };
+    let query = Query {
+        port: records::word(input, 1),
+        limit: records::word(input, 2),
+        budget: records::word(input, 3),
+        asked: asked(input, version),
+    };
+    fabric::answer(call, &input[bytes..], version, area, query)
 }

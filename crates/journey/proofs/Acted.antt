@@ -6,7 +6,7 @@ use Rattle.headers.specs.Sets.{Header}
 use Rattle.headers.specs.Actions.{Act, acted, padded_act}
 use Rattle.headers.specs.declared.Transfer.{Transfer}
 use Rattle.layout.specs.Records.{width_in, rewrite_at, entry_transfer, entry_action}
-use Rattle.layout.specs.declared.Shape.{Shape}
+use Rattle.layout.specs.Shape.{Shape}
 use Rattle.wide.specs.Forms.{wide_words, rewrite_stored}
 use Rattle.file.specs.Accepted.{Accepted}
 use Rattle.file.proofs.Accepted.{words_said}

@@ -19,8 +19,18 @@ use Rattle.forwarding.specs.Choices.{Several}
 use Rattle.forwarding.specs.Wider.{wider_packet}
 use Rattle.forwarding.proofs.WiderRuns.{port_wider, header_wider, taken_by_wider}
 use Rattle.forwarding.proofs.Runs.{miss_fate_low, hops_within}
-use Rattle.journey.specs.Journey.{packet_words, IsJourney, journey_words, Hopped}
+use Rattle.journey.specs.Journey.{packet_words, fate_number, IsJourney, journey_words, Hopped}
+use Rattle.journey.specs.declared.Fate.{Fate}
+use Rattle.journey.specs.declared.Fate.TheVariants.{Left, Dropped, Lost, Travelling, Tied}
 use Rattle.journey.specs.declared.Journey.{Journey}
+
+-- a fate with this number is of a packet on its way
+pub fate_travelling : (f : Fate) → fate_number f ≡ 3 → f ≡ Travelling
+fate_travelling Left e = absurd (omega arith)
+fate_travelling Dropped e = absurd (omega arith)
+fate_travelling Lost e = absurd (omega arith)
+fate_travelling Travelling e = refl
+fate_travelling Tied e = absurd (omega arith)
 
 -- the packet that j is, still travelling
 record Travels (p : Packet) (j : Journey) : Type 0 where
@@ -29,7 +39,7 @@ record Travels (p : Packet) (j : Journey) : Type 0 where
   hops : length taken ≡ j.hops
   entries : sixteen (reverse taken) ≡ j.entries
 
-travels : (F : Fabric) (p : Packet) (j : Journey) → IsJourney F p j → j.fate ≡ 3 → Travels p j
+travels : (F : Fabric) (p : Packet) (j : Journey) → IsJourney F p j → fate_number j.fate ≡ 3 → Travels p j
 unfolding fate_of port_of header_of taken_by
 travels F (travelling x h r) j e three = record {
   taken = r;
@@ -45,7 +55,7 @@ travels F (tied x h r) j e three = absurd (let z : 4 ≡ 3 = sym e.fate ∙ thre
 
 module _ (F : Fabric) (j : Journey) where
   -- a packet at its end stays as it is
-  pub hopped_ended : (j.fate ≡ 3 → ⊥) → Hopped F j j
+  pub hopped_ended : (fate_number j.fate ≡ 3 → ⊥) → Hopped F j j
   unfolding fate_of hop
   hopped_ended ended = record { follows = go }
     where
@@ -56,7 +66,7 @@ module _ (F : Fabric) (j : Journey) where
       go (missed x h r) l e = e
       go (tied x h r) l e = e
 
-  module _ (three : j.fate ≡ 3) where
+  module _ (three : fate_number j.fate ≡ 3) where
     -- what becomes of a travelling packet is what `forwarded` makes of its takers
     by_takers : (o : List ℕ) (r : Journey) → takers F j.port (words_of j.header) ≡ o
         → ((q : List ℕ) → length q < 16 → length q ≡ j.hops → sixteen (reverse q) ≡ j.entries
@@ -72,7 +82,7 @@ module _ (F : Fabric) (j : Journey) where
     }
 
     -- W7
-    pub hopped_missed : (fate : ℕ) → fate ≡ miss_fate F → takers F j.port (words_of j.header) ≡ []
+    pub hopped_missed : (fate : Fate) → fate_number fate ≡ miss_fate F → takers F j.port (words_of j.header) ≡ []
         → Hopped F j (record { fate = fate; port = j.port; hops = j.hops; header = j.header; entries = j.entries })
     unfolding fate_of port_of header_of taken_by
     hopped_missed fate is t = by_takers [] _ t λ q l n e.
@@ -80,7 +90,7 @@ module _ (F : Fabric) (j : Journey) where
 
     -- W16
     pub hopped_tied : Several (takers F j.port (words_of j.header))
-        → Hopped F j (record { fate = 4; port = j.port; hops = j.hops; header = j.header; entries = j.entries })
+        → Hopped F j (record { fate = Tied; port = j.port; hops = j.hops; header = j.header; entries = j.entries })
     unfolding fate_of port_of header_of taken_by
     hopped_tied s = by_takers (s.first ∷ s.second ∷ s.rest) _ s.is λ q l n e.
         record { fate = refl; port = refl; hops = sym n; header = refl; entries = sym e }
@@ -88,7 +98,7 @@ module _ (F : Fabric) (j : Journey) where
     -- the one taker sends the packet out: where it then is, and its fate there
     module _ (e : ℕ) (t : takers F j.port (words_of j.header) ≡ e ∷ []) (h : WideHeader)
         (is : applied F e (words_of j.header) ≡ words_of h) where
-      abbrev pub sent : ℕ → ℕ → Journey
+      abbrev pub sent : Fate → ℕ → Journey
       sent f x = record { fate = f; port = x; hops = j.hops + 1; header = h; entries = set j.entries j.hops e }
 
       -- the hops and the entries with one more
@@ -112,26 +122,26 @@ module _ (F : Fabric) (j : Journey) where
           (subst (λ (y : ℕ). IsJourney F (sent_out F j.port x y (applied F e (words_of j.header)) (e ∷ q)) r) (sym z) (then q l n k))
 
       -- "Out-port 0: dropped."
-      pub hopped_dropped : out_port_of F e ≡ 0 → Hopped F j (sent 1 j.port)
+      pub hopped_dropped : out_port_of F e ≡ 0 → Hopped F j (sent Dropped j.port)
       unfolding fate_of port_of header_of taken_by
-      hopped_dropped o = by_out 0 (F.link_to 0) (sent 1 j.port) o refl λ q l n k.
+      hopped_dropped o = by_out 0 (F.link_to 0) (sent Dropped j.port) o refl λ q l n k.
           record { fate = refl; port = refl; hops = sym (more_hops q n); header = sym is; entries = sym (more_entries q l n k) }
 
       -- "Any other: it leaves there."
-      pub hopped_left : (x : ℕ) → out_port_of F e ≡ x → (x ≡ 0 → ⊥) → F.link_to x ≡ 0 → Hopped F j (sent 0 x)
+      pub hopped_left : (x : ℕ) → out_port_of F e ≡ x → (x ≡ 0 → ⊥) → F.link_to x ≡ 0 → Hopped F j (sent Left x)
       unfolding fate_of port_of header_of taken_by
       hopped_left zero o d z = absurd (d refl)
-      hopped_left (suc x) o d z = by_out (suc x) 0 (sent 0 (suc x)) o z λ q l n k.
+      hopped_left (suc x) o d z = by_out (suc x) 0 (sent Left (suc x)) o z λ q l n k.
           record { fate = refl; port = refl; hops = sym (more_hops q n); header = sym is; entries = sym (more_entries q l n k) }
 
       -- "An out-port that is some link's from-port: the packet goes on at the to-port."
       pub hopped_on : (x y : ℕ) → out_port_of F e ≡ x → (x ≡ 0 → ⊥) → F.link_to x ≡ y → (y ≡ 0 → ⊥)
-          → Hopped F j (sent 3 y)
+          → Hopped F j (sent j.fate y)
       unfolding fate_of port_of header_of taken_by
       hopped_on zero y o d z u = absurd (d refl)
       hopped_on (suc x) zero o d z u = absurd (u refl)
-      hopped_on (suc x) (suc y) o d z u = by_out (suc x) (suc y) (sent 3 (suc y)) o z λ q l n k.
-          record { fate = refl; port = refl; hops = sym (more_hops q n); header = sym is; entries = sym (more_entries q l n k) }
+      hopped_on (suc x) (suc y) o d z u = by_out (suc x) (suc y) (sent j.fate (suc y)) o z λ q l n k.
+          record { fate = three; port = refl; hops = sym (more_hops q n); header = sym is; entries = sym (more_entries q l n k) }
 
 -- ---- a run, hop by hop
 

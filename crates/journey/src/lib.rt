@@ -1,179 +1,160 @@
 // A packet on its way: document 01, "Forwarding".
 #![tactic(auto)]
 
-ghost use Rattle.std.specs.Prelude.{◌≡◌, ◌*◌, ◌≤◌, ◌<◌, length};
+ghost use Rattle.std.specs.Prelude.{[], ◌∷◌, ◌≡◌, ◌*◌, ◌≤◌, ◌<◌, length, MatchOption};
 ghost use Rattle.answer.specs.Answer.{answer_words, written_at};
-ghost use Rattle.layout.specs.Records.{Width};
+ghost use Rattle.layout.specs.Versions.{header_words};
 ghost use Rattle.wide.specs.Forms.{words_of};
-ghost use Rattle.questions.specs.Tables.{StartTable};
-ghost use Rattle.file.specs.Accepted.{Accepted};
-ghost use Rattle.forwarding.specs.Run.{miss_fate, run};
+ghost use Rattle.forwarding.specs.Run.{takers, miss_fate, run};
 ghost use Rattle.model.specs.Model.{fabric_in, wide_in};
-ghost use Rattle.journey.specs.Journey.{IsJourney, journey_words, Hopped};
+ghost use Rattle.journey.specs.Journey.{fate_number, IsJourney, journey_words, Hopped};
 
-use layout::Shape;
+use file::{Fabric, LinkPorts};
+use layout::Version;
+use model::Takers;
+use stored::StoredSet;
 use wide::WideHeader;
 
-// The fates.
-const LEFT: u32 = 0;
+// What has become of a packet.
+#[derive(Clone, Copy, PartialEq, Eq)]
+pub enum Fate {
+    Left,
+    Dropped,
+    Lost,
+    Travelling,
+    Tied,
+}
 
-const DROPPED: u32 = 1;
+impl Fate {
+    // The fate's number in an answer.
+    fn number(self) -> u32
+        ensures { result ≡ fate_number self }
+    {
+        self as u32
+    }
+}
 
-const LOST: u32 = 2;
-
-const TRAVELLING: u32 = 3;
-
-const TIED: u32 = 4;
-
-// A packet: its fate, port, header and hops made, and the entries that took it.
+// A packet: its fate, port, header and hops made, and the entries that took it, in an array for 16 hops, as nothing is allocated.
 #[derive(Clone, Copy)]
 pub struct Journey {
-    pub fate: u32,
+    pub fate: Fate,
     pub port: u32,
     pub hops: usize,
     pub header: WideHeader,
     pub entries: [u32; 16],
 }
 
-fn size(x: u16) -> usize
-    ensures { result ≡ x }
-{
-    x as usize
+impl Journey {
+    // The packet where it is, with another fate.
+    fn ended(self, fate: Fate) -> Journey
+        ensures { result ≡ record self { fate = fate } }
+    {
+        Journey { fate, ..self }
+    }
 }
 
-// The to-port of the link from port o; 0 where there is none.
-fn link_after(file: &[u8], shape: Shape, starts: &[u16; 4096], o: u32) -> u32
-    requires accepted { Accepted file.now shape }
-    requires start_table { StartTable file.now shape.edges shape.links starts.now }
-    requires o_bound { o < 4096 }
-    ensures { result ≡ (fabric_in file.now).link_to o }
+// The to-port of the link from port o, if there is one.
+fn link_after(links: &LinkPorts, o: u32) -> Option<u32>
+    requires { o < 4096 }
+    ensures { MatchOption result
+        ((fabric_in links.now.fabric.file.now).link_to o ≡ 0)
+        (λ z. (0 < z) × ((fabric_in links.now.fabric.file.now).link_to o ≡ z)) }
 {
-    let k = size(starts[o as usize]);
-    if k == 0 {
-        return 0;
+    let number = usize::from(links.from[o as usize]);
+    if number == 0 {
+        return None;
     }
-    file::link_to(file, shape, k - 1)
+    Some(links.fabric.link_to(number - 1))
 }
 
 // The fate of a packet that no entry takes.
-fn miss_fate(file: &[u8], shape: Shape) -> u32
-    requires { Accepted file.now shape }
-    ensures { result ≡ miss_fate (fabric_in file.now) }
+fn miss_fate(fabric: &Fabric) -> Fate
+    ensures { fate_number result ≡ miss_fate (fabric_in fabric.now.file.now) }
 {
-    if model::miss_drops(file, shape) {
-        return DROPPED;
+    if model::miss_drops(fabric) {
+        Fate::Dropped
+    } else {
+        Fate::Lost
     }
-    LOST
+}
+
+// The hop of a travelling packet that entry e alone takes.
+fn taken(links: &LinkPorts, j: Journey, e: usize) -> Journey
+    requires e_lt_entries { e < links.now.fabric.counts.entries }
+    requires hops_bound { j.hops < 16 }
+    requires travelling { j.fate ≡ Fate.Travelling }
+    requires alone { takers (wide_in links.now.fabric.file.now) j.port (words_of j.header) ≡ e ∷ [] }
+    ensures { Hopped (wide_in links.now.fabric.file.now) j result }
+{
+    let x = links.fabric.entry(e);
+    let version = links.fabric.counts.version;
+    let rewrite = StoredSet {
+        bytes: x,
+        at: records::rewrite_at(version),
+        version,
+    };
+    let mut entries = j.entries;
+    entries[j.hops] = e as u32;
+    let moved = Journey {
+        hops: j.hops + 1,
+        header: rewrite.applied(records::transfer(x), j.header),
+        entries,
+        ..j
+    };
+    let o = records::out_port(x);
+    if o == 0 {
+        return moved.ended(Fate::Dropped);
+    }
+    match link_after(links, o) {
+        None => Journey {
+            fate: Fate::Left,
+            port: o,
+            ..moved
+        },
+        Some(z) => Journey { port: z, ..moved },
+    }
 }
 
 // One hop, if the packet is still travelling.
-fn hop(file: &[u8], shape: Shape, starts: &[u16; 4096], j: Journey) -> Journey
-    requires accepted { Accepted file.now shape }
-    requires start_table { StartTable file.now shape.edges shape.links starts.now }
-    requires hops_bound { j.hops < 16 }
-    ensures { Hopped (wide_in file.now) j result }
+fn hop(links: &LinkPorts, j: Journey) -> Journey
+    requires { j.hops < 16 }
+    ensures { Hopped (wide_in links.now.fabric.file.now) j result }
 {
-    if j.fate != TRAVELLING {
+    if j.fate != Fate::Travelling {
         return j;
     }
-    let port = j.port;
-    let header = j.header;
-    let n = j.hops;
-    let mut entries = j.entries;
-    let best = model::taker(file, shape, port, header);
-    let e = best.entry;
-    let tied = best.tied;
-    if e == shape.entries {
-        return Journey {
-            fate: miss_fate(file, shape),
-            port,
-            hops: n,
-            header,
-            entries,
-        };
-    }
-    if tied {
-        return Journey {
-            fate: TIED,
-            port,
-            hops: n,
-            header,
-            entries,
-        };
-    }
-    entries[n] = e as u32;
-    let x = file::entry(file, shape, e);
-    let o = records::out_port(x);
-    let w = shape.words;
-    let after = stored::applied(x, records::rewrite_at(w), w, records::transfer(x), header);
-    if o == 0 {
-        return Journey {
-            fate: DROPPED,
-            port,
-            hops: n + 1,
-            header: after,
-            entries,
-        };
-    }
-    let z = link_after(file, shape, starts, o);
-    if z == 0 {
-        return Journey {
-            fate: LEFT,
-            port: o,
-            hops: n + 1,
-            header: after,
-            entries,
-        };
-    }
-    Journey {
-        fate: TRAVELLING,
-        port: z,
-        hops: n + 1,
-        header: after,
-        entries,
+    match model::taker(&links.fabric, j.port, j.header) {
+        Takers::Nobody => j.ended(miss_fate(&links.fabric)),
+        Takers::One(e) => taken(links, j, e),
+        Takers::Several(_) => j.ended(Fate::Tied),
     }
 }
 
 // The run of a packet that starts at a port.
-pub fn travel(
-    file: &[u8],
-    shape: Shape,
-    starts: &[u16; 4096],
-    start: u32,
-    limit: usize,
-    header: WideHeader,
-) -> Journey
-    requires accepted { Accepted file.now shape }
-    requires start_table { StartTable file.now shape.edges shape.links starts.now }
-    requires limit_bound { limit ≤ 16 }
-    ensures { IsJourney (wide_in file.now) (run (wide_in file.now) limit start (words_of header)) result }
+pub fn travel(links: &LinkPorts, start: u32, limit: usize, header: WideHeader) -> Journey
+    requires { limit ≤ 16 }
+    ensures { IsJourney (wide_in links.now.fabric.file.now) (run (wide_in links.now.fabric.file.now) limit start (words_of header)) result }
 {
     let mut j = Journey {
-        fate: TRAVELLING,
+        fate: Fate::Travelling,
         port: start,
         hops: 0,
         header,
         entries: [0; 16],
     };
-    let mut k: usize = 0;
-    while k < limit {
-        j = hop(file, shape, starts, j);
-        k += 1;
+    for _ in 0..limit {
+        j = hop(links, j);
     }
     j
 }
 
-// The words of a run's answer, of headers of w words.
-pub fn put(area: &mut [u8], w: usize, j: Journey)
-    requires width { Width w }
-    requires w_in_bounds { 4 * answer_words w ≤ length area.old }
+// The words of a run's answer, in a file of this version.
+pub fn put(area: &mut [u8], version: Version, j: Journey)
+    requires in_bounds { 4 * answer_words (header_words version) ≤ length area.old }
     requires hops_bound { j.hops ≤ 16 }
-    ensures { area.new ≡ written_at 0 (journey_words w j) area.old }
+    ensures { area.new ≡ written_at 0 (journey_words (header_words version) j) area.old }
 {
-    let first = [j.fate, 0, j.port, j.hops as u32];
-    let header = j.header;
-    let entries = j.entries;
-    answer::put_words(area, 0, &first);
-    answer::put_header(area, 4, w, header);
-    answer::put_words(area, 4 + w, &entries);
+    answer::put_words(area, 0, &[j.fate.number(), 0, j.port, j.hops as u32]);
+    answer::put_header(area, 4, version, j.header);
+    answer::put_words(area, 4 + version.words(), &j.entries);
 }

@@ -10,6 +10,9 @@ use Rattle.headers.specs.Sets.{beside, padded}
 use Rattle.headers.proofs.Beside.{words_beside}
 use Rattle.layout.specs.Words.{word_at, words_from, version_of}
 use Rattle.layout.specs.Records.{half, Width, width_in, set_from, low_from, high_from}
+use Rattle.layout.specs.Versions.{header_words}
+use Rattle.layout.specs.declared.Version.{Version}
+use Rattle.layout.specs.declared.Version.TheVariants.{One, Two}
 
 -- what holds of four words and of eight
 pub by_width : (P : ℕ → Type 0) → P 4 → P 8 → (w : ℕ) → Width w → P w
@@ -29,6 +32,11 @@ width_is f = go (eqb (version_of (word_at f 0)) 2)
 
 pub width_said : (f : List ℕ) {w : ℕ} → w ≡ width_in f → Width w
 width_said f e = rw e (width_is f)
+
+-- the words of either version
+pub version_width : (v : Version) → Width (header_words v)
+version_width One = record { low = omega arith; high = omega arith; halves = refl }
+version_width Two = record { low = omega arith; high = omega arith; halves = refl }
 
 -- ---- halves
 

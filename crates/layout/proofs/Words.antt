@@ -1,9 +1,9 @@
 -- Words of the file and of a part of it: each fits 32 bits, and the words of a part are the file's. Assumes nothing.
 use mathlib.Core.Bool.{true}
-use mathlib.Core.List.{List, [], ◌∷◌}
+use mathlib.Core.List.{List}
 use mathlib.Core.Path.{◌≡◌, sym, ap, ◌∙◌}
 use Prim.Native.Nat.{ℕ, ◌+◌, ◌*◌, ◌^◌, ◌≤◌, ◌<◌}
-use native.Mathlib.Nat.{add-zero, add_assoc}
+use native.Mathlib.Nat.{add_assoc}
 use native.Mathlib.Omega.{arith}
 use lib.Dec.{leb}
 use borrow.Author.Tests.{le-leb}
@@ -20,12 +20,6 @@ word_fits f k = omega arith
 
 pub words_from_fit : (n : ℕ) (f : List ℕ) (k : ℕ) → Words n (words_from n f k)
 words_from_fit n f k = words_fit n _ (λ w l. word_fits f (k + w))
-
--- an array of four words that were read
-pub four : (f : List ℕ) (k a b c d : ℕ) → a ≡ word_at f k → b ≡ word_at f (k + 1) → c ≡ word_at f (k + 2)
-    → d ≡ word_at f (k + 3)
-    → (a ∷ b ∷ c ∷ d ∷ []) ≡ words_from 4 f k
-four f k a b c d ha hb hc hd = rw (ha, hb, hc, hd, add-zero)
 
 -- ---- fields of 12 bits
 

@@ -6,7 +6,7 @@ use Rattle.headers.specs.Actions.{Act}
 use Rattle.headers.specs.declared.Transfer.{Transfer}
 use Rattle.headers.specs.declared.Transfer.TheVariants.{Keep, Copy, Swap}
 use Rattle.layout.specs.Words.{word_at, words_from, bytes_from, version_of, transfer_of, port_of, from_of, rank_of}
-use Rattle.layout.specs.declared.Shape.{Shape}
+use Rattle.layout.specs.Shape.{Shape}
 
 -- ---- the widths of a record
 

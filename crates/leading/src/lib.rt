@@ -1,5 +1,5 @@
-// The first part that a set of w words, which stands in some bytes from word k on, leaves of a header set of eight words. Document 01's
-// order: parts of the first four words before those of the last four. Document 02, 2.6.
+// The first part that a set that stands in some bytes leaves of a header set of eight words. Document 01's order: parts of the first four
+// words before those of the last four. Document 02, 2.6.
 #![tactic(auto)]
 
 ghost use Rattle.std.specs.Prelude.{false, ◌&&◌, ◌≡◌};
@@ -8,44 +8,43 @@ ghost use Rattle.std.proofs.Math.Option.{some};
 ghost use Rattle.headers.specs.Bits.{no_bit};
 ghost use Rattle.headers.specs.Sets.{overlaps};
 ghost use Rattle.headers.specs.Carving.{free, carve};
-ghost use Rattle.wide.specs.Forms.{wide_words, wide_of, maybe_wide_of, stored_at, Stored};
+ghost use Rattle.wide.specs.Forms.{wide_words, wide_of, maybe_wide_of};
+ghost use Rattle.stored.specs.Forms.{set_there};
 
-use records::HALF;
-use wide::{MaybeWide, WideSet};
+use layout::Version;
+use stored::StoredSet;
+use wide::WideSet;
 
 // Does the set that stands there hold all of p?
-fn covers(x: &[u8], k: usize, w: usize, p: WideSet) -> bool
-    requires { Stored x.now k w }
-    ensures { result ≡ (overlaps wide_words (wide_of p) (stored_at w x.now k)
-        && no_bit wide_words (free wide_words (wide_of p) (stored_at w x.now k))) }
+fn covers(x: &StoredSet, p: WideSet) -> bool
+    ensures { result ≡ (overlaps wide_words (wide_of p) (set_there x.now)
+        && no_bit wide_words (free wide_words (wide_of p) (set_there x.now))) }
 {
-    let low = p.low;
-    let high = p.high;
-    let m = records::low_at(x, k, w);
-    if !low.overlaps(m) {
+    let m = x.low();
+    if !p.low.overlaps(m) {
         return false;
     }
-    if !words::none_set(low.free(m)) {
+    if !words::none_set(p.low.free(m)) {
         return false;
     }
-    if w == HALF {
-        return true;
+    match x.version {
+        Version::One => true,
+        Version::Two => {
+            let c = x.high();
+            p.high.overlaps(c) & words::none_set(p.high.free(c))
+        }
     }
-    let c = records::high_at(x, k, w);
-    high.overlaps(c) & words::none_set(high.free(c))
 }
 
 // The first part that it leaves of p, of which it doesn't hold all.
-fn leading_part(x: &[u8], k: usize, w: usize, p: WideSet) -> WideSet
-    requires stored { Stored x.now k w }
-    requires k_value { (overlaps wide_words (wide_of p) (stored_at w x.now k)
-        && no_bit wide_words (free wide_words (wide_of p) (stored_at w x.now k))) ≡ false }
-    ensures { head? (carve wide_words (wide_of p) (stored_at w x.now k)) ≡ some (wide_of result) }
+fn leading_part(x: &StoredSet, p: WideSet) -> WideSet
+    requires { (overlaps wide_words (wide_of p) (set_there x.now)
+        && no_bit wide_words (free wide_words (wide_of p) (set_there x.now))) ≡ false }
+    ensures { head? (carve wide_words (wide_of p) (set_there x.now)) ≡ some (wide_of result) }
 {
-    let low = p.low;
-    let high = p.high;
-    let m = records::low_at(x, k, w);
-    let c = records::high_at(x, k, w);
+    let WideSet { low, high } = p;
+    let m = x.low();
+    let c = x.high();
     if !(low.overlaps(m) & high.overlaps(c)) {
         return p;
     }
@@ -63,18 +62,11 @@ fn leading_part(x: &[u8], k: usize, w: usize, p: WideSet) -> WideSet
 }
 
 // The first part that it leaves of p, if there is one.
-pub fn first_part(x: &[u8], k: usize, w: usize, p: WideSet) -> MaybeWide
-    requires { Stored x.now k w }
-    ensures { maybe_wide_of result ≡ head? (carve wide_words (wide_of p) (stored_at w x.now k)) }
+pub fn first_part(x: &StoredSet, p: WideSet) -> Option<WideSet>
+    ensures { maybe_wide_of result ≡ head? (carve wide_words (wide_of p) (set_there x.now)) }
 {
-    if covers(x, k, w, p) {
-        return MaybeWide {
-            some: false,
-            set: p,
-        };
+    if covers(x, p) {
+        return None;
     }
-    MaybeWide {
-        some: true,
-        set: leading_part(x, k, w, p),
-    }
+    Some(leading_part(x, p))
 }

@@ -1,20 +1,12 @@
--- Bytes copied one after the other, and words copied from where they were written. Assumes nothing.
+-- Words copied from where they were written. Assumes nothing.
 use mathlib.Core.List.{List, ◌++◌}
-use mathlib.Core.Path.{◌≡◌, sym, ap, ◌∙◌}
-use Prim.Native.Nat.{ℕ, suc, ◌+◌, ◌*◌, ◌<◌}
-use native.Mathlib.Numerals.{add-one}
+use mathlib.Core.Path.{◌≡◌, ap, ◌∙◌}
+use Prim.Native.Nat.{ℕ, ◌+◌, ◌*◌}
 use native.Mathlib.Omega.{arith}
-use lib.ListN.{length, take, drop, get_or, set}
-use lib.Seq.{take-suc, drop-cons, append_snoc, set_at, take_at, length-take-le}
+use lib.ListN.{length, take, drop}
+use lib.Seq.{take_at}
 use Rattle.answer.specs.Answer.{written_at, bytes_of}
 use Rattle.answer.proofs.Written.{bytes_length}
-
-pub one_copied : (own area : List ℕ) (i : ℕ) → i < length own → i < length area
-    → set (take i own ++ drop i area) i (get_or own i 0) ≡ take (i + 1) own ++ drop (i + 1) area
-one_copied own area i inside room =
-    rw (add-one i, drop-cons area i 0, take-suc own i 0)
-    (set_at (take i own) (get_or area i 0) (drop (suc i) area) (get_or own i 0) i (length-take-le i own (omega arith))
-    ∙ sym (append_snoc (take i own) (get_or own i 0) (drop (suc i) area)))
 
 -- words written in one place are, copied from there, written in the other
 pub words_copied : (ws own area : List ℕ) {words : ℕ} {bytes last : List ℕ} → words ≡ length ws → bytes ≡ written_at 0 ws own

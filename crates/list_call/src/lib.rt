@@ -1,26 +1,25 @@
-// Document 01's list on an accepted fabric: questions 8 to 10, 13 and 12, and the answer. It returns the number of the first no, or the
-// words of its answer × 256; after a no every lent byte is as it was.
+// Document 01's list on an accepted fabric: questions 8 to 10, 13 and 12, and the answer. It returns the words of its answer, or the first
+// question that got a no; after a no every lent byte is as it was.
 #![tactic(auto)]
 
-ghost use Rattle.std.specs.Prelude.{true, ◌++◌, ◌≡◌, ◌*◌, ◌≤◌, length, take, drop};
+ghost use Rattle.std.specs.Prelude.{true, ◌++◌, ◌≡◌, ◌*◌, ◌≤◌, length, take, drop, ◌^◌, ◌<◌};
 ghost use Rattle.answer.specs.Answer.{outcome};
 ghost use Rattle.layout.specs.Records.{width_in};
-ghost use Rattle.wide.specs.Forms.{wide_of, narrowed, Fits};
-ghost use Rattle.questions.specs.Tables.{EdgeTable};
-ghost use Rattle.questions.specs.declared.Read.TheVariants.{Fabric};
-ghost use Rattle.file.specs.Accepted.{Accepted};
+ghost use Rattle.layout.specs.Versions.{header_words};
+ghost use Rattle.wide.specs.Forms.{wide_of, Fits};
+ghost use Rattle.questions.specs.Refusals.{read_of};
 ghost use Rattle.model.specs.Model.{fabric_in, wide_in};
 ghost use Rattle.index.specs.Index.{Index};
 ghost use Rattle.events.specs.Pass.{played_then};
 ghost use Rattle.queries.specs.Queries.{list_target};
-ghost use Rattle.calls.specs.Questions.{query};
+ghost use Rattle.calls.specs.Codes.{code_of, query_of, wide_query};
 ghost use Rattle.calls.specs.List.{list_pass_of, list_answer};
 
-use calls::{BUDGET_USED, NO_ROOM};
-use events::Passed;
+use events::{Mode, Passed};
+use file::EdgePorts;
 use index::{CELLS, UNUSED};
-use layout::Shape;
-use wide::WideSet;
+use questions::Refusal;
+use wide::Query;
 
 // The words that the list's own bytes hold.
 const OWN_WORDS: usize = 4096;
@@ -33,93 +32,51 @@ fn copy_words(area: &mut [u8], own: &[u8], words: usize)
     ensures { area.new ≡ take (4 * words) own.now ++ drop (4 * words) area.old }
 {
     let bytes = 4 * words;
-    let mut i: usize = 0;
-    while i < bytes {
-        area[i] = own[i];
-        i += 1;
-    }
+    area[..bytes].copy_from_slice(&own[..bytes]);
 }
 
-// A pass over the finds at an edge port, or over the packets that are lost.
-fn list_pass(
-    file: &[u8],
-    area: &mut [u8],
-    shape: Shape,
-    edge_of: &[u16; 4096],
-    index: &[u16; CELLS],
-    target: u32,
-    limit: u32,
-    budget: u32,
-    asked: WideSet,
-) -> Passed
-    requires accepted { Accepted file.now shape }
-    requires edge_table { EdgeTable file.now shape.edges edge_of.now }
-    requires index { Index file.now index.now }
-    requires target_value { list_target (fabric_in file.now) target ≡ true }
-    requires le_limit { (1 ≤ limit) × (limit ≤ 16) }
+// A pass over the finds at an edge port, or over the packets that are lost: a target is a word of the query, and 0 asks for these.
+#[tactic(auto, using(queries::proofs::Targets::edge_asked, queries::proofs::Targets::edge_traced))]
+fn list_pass(edges: &EdgePorts, index: &[u16; CELLS], query: &Query, area: &mut [u8]) -> Passed
+    requires index { Index edges.now.fabric.file.now index.now }
+    requires target { list_target (fabric_in edges.now.fabric.file.now) query.now.port ≡ true }
+    requires limit { (1 ≤ query.now.limit) × (query.now.limit ≤ 16) }
     ensures { played_then result area.new
-        ≡ list_pass_of (width_in file.now) (wide_in file.now) (query target limit budget (wide_of asked))
-        area.old }
+        ≡ list_pass_of (width_in edges.now.fabric.file.now) (wide_in edges.now.fabric.file.now)
+        (wide_query query.now) area.old }
 {
-    if target == 0 {
-        return losses::lost_pass(file, area, shape, index, limit, budget, asked);
+    if query.port == 0 {
+        return losses::lost_pass(&edges.fabric, index, query, area);
     }
-    passes::pass(
-        file,
-        area,
-        shape,
-        edge_of,
-        index,
-        events::LIST,
-        target,
-        limit,
-        budget,
-        asked,
-    )
+    passes::pass(edges, index, Mode::List, query, area)
 }
 
 // The list on an accepted file, after questions 8 to 10. No lent byte may change before questions 13 and 12 got a yes, so the trace
 // writes to bytes of its own, from which the words are copied; a list that they don't hold is traced again.
-pub fn list_accepted(
-    file: &[u8],
-    area: &mut [u8],
-    shape: Shape,
-    edge_of: &[u16; 4096],
-    target: u32,
-    limit: u32,
-    budget: u32,
-    asked: WideSet,
-) -> u64
-    requires accepted { Accepted file.now shape }
-    requires edge_table { EdgeTable file.now shape.edges edge_of.now }
-    requires fits { Fits shape.words (wide_of asked) }
-    ensures { outcome result area.new ≡ list_answer file.now
-        (query target limit budget (narrowed shape.words (wide_of asked))) (Fabric shape) area.old }
+pub fn list_accepted(edges: &EdgePorts, area: &mut [u8], query: Query) -> Result<u64, Refusal>
+    requires { Fits (header_words edges.now.fabric.counts.version) (wide_of query.asked) }
+    ensures answers { outcome (code_of result) area.new ≡ list_answer edges.now.fabric.file.now
+        (query_of edges.now.fabric.counts.version query) (read_of (Ok edges.now.fabric.counts)) area.old }
+    ensures few { code_of result < 2 ^ 64 }
 {
-    let no = queries::list_no(file, shape, edge_of, target, limit, asked);
-    if no != 0 {
-        return no as u64;
-    }
+    let right = queries::list_target(edges, query.port);
+    queries::trace_asked(right, &query)?;
     let mut index = [UNUSED; CELLS];
-    index::fill(file, shape, &mut index);
+    index::fill(&edges.fabric, &mut index);
     let mut own = [0u8; OWN_BYTES];
-    let counted = list_pass(
-        file, &mut own, shape, edge_of, &index, target, limit, budget, asked,
-    );
-    if counted.status != 0 {
-        return BUDGET_USED;
+    let counted = list_pass(edges, &index, &query, &mut own);
+    if counted.ended.is_err() {
+        return Err(Refusal::Budget);
     }
     let room = (area.len() / 4) as u64;
-    let words = counted.words;
+    let words = counted.counters.words;
     if room < words {
-        return NO_ROOM;
+        return Err(Refusal::Room);
     }
     if words <= OWN_WORDS as u64 {
         copy_words(area, &own, words as usize);
-        return words * 256;
+        return Ok(words);
     }
-    list_pass(
-        file, area, shape, edge_of, &index, target, limit, budget, asked,
-    );
-    words * 256
+    list_pass(edges, &index, &query, area);
+    Ok(words)
 }

@@ -2,16 +2,18 @@
 // its count".
 #![tactic(auto)]
 
-ghost use Rattle.std.specs.Prelude.{◌++◌, map, ◌≡◌, ◌+◌, ◌-◌, ◌*◌, ◌^◌, ◌<◌, ◌≤◌, ltb, length, get_or};
-ghost use Rattle.std.specs.Prelude.{drop};
+ghost use Rattle.std.specs.Prelude.{◌++◌, map, ◌≡◌, ◌+◌, ◌*◌, ◌/◌, ◌^◌, ◌<◌, ◌≤◌, ltb, leb, length};
 ghost use Rattle.answer.specs.Answer.{written_at};
-ghost use Rattle.layout.specs.Records.{Width, set_words, port_of_edge};
+ghost use Rattle.layout.specs.Records.{set_words, port_of_edge};
+ghost use Rattle.layout.specs.Versions.{header_words};
 ghost use Rattle.wide.specs.Forms.{wide_of, narrowed};
 ghost use Rattle.file.specs.Accepted.{HasEdge};
-ghost use Rattle.events.specs.Play.{find_words, narrow_find, too_many, counted_on, fitted_at, listed};
-ghost use Rattle.events.specs.Asked.{Path, world_of, played_of, find_at};
+ghost use Rattle.events.specs.Play.{goes_on, find_words, too_many, counted_on, listed};
+ghost use Rattle.events.specs.Asked.{Way, world_of, find_at};
 
-use events::PLACES;
+use events::{Counters, Find};
+use layout::Version;
+use sets::HeaderSet;
 use wide::{WideHeader, WideSet};
 
 // The list's words: kinds 6 and 7 in bits 31..28, hops from bit 12 on.
@@ -29,60 +31,60 @@ pub fn port_at(file: &[u8], k: usize) -> u32
     requires { HasEdge file.now k }
     ensures { result ≡ port_of_edge file.now k }
 {
-    records::port(file::edge(file, k))
+    records::port(file::edge_at(file, k))
 }
 
-// The words of a find: one, one for each entry, care and value.
-fn words_of(w: usize, d: usize) -> u64
-    requires width { Width w }
-    requires d_bound { d ≤ 16 }
-    ensures { result ≡ 17 - d + set_words w }
+// The words of a find: one, one for each hop, care and value.
+fn words_of(version: Version, hops: usize) -> u64
+    requires { hops ≤ 16 }
+    ensures { result ≡ 1 + hops + set_words (header_words version) }
 {
-    (1 + (PLACES - d) + 2 * w) as u64
+    (1 + hops + 2 * version.words()) as u64
 }
 
-// The words of a find are counted.
-fn count_find(w: usize, d: usize, counters: &mut [u64; 2])
-    requires width { Width w }
-    requires d_bound { d ≤ 16 }
-    requires counters_len { length counters.old ≡ 2 }
-    ensures counters_unchanged { get_or counters.new 0 0 ≡ get_or counters.old 0 0 }
-    ensures counters_after { get_or counters.new 1 0
-        ≡ counted_on (ltb (get_or counters.old 1 0) too_many) (get_or counters.old 1 0) (17 - d + set_words w) }
-    ensures counters_len_2 { length counters.new ≡ 2 }
+// So many words more are counted.
+fn count_words(words: u64, counters: &mut Counters)
+    requires { words < 2 ^ 32 }
+    ensures made_stays { counters.new.made ≡ counters.old.made }
+    ensures words_after { counters.new.words
+        ≡ counted_on (ltb counters.old.words too_many) counters.old.words words }
 {
-    let words = counters[1];
-    if words < TOO_MANY {
-        counters[1] = words + words_of(w, d);
+    if counters.words < TOO_MANY {
+        counters.words += words;
     }
 }
 
-// The entries from place d on, "for each entry .. a word of kind 7", at word `at` of the area and on.
-fn put_entries(area: &mut [u8], at: usize, d: usize, path: &[u32; 16])
-    requires path { Path path.now d }
-    requires d_in_bounds { 4 * (at + (16 - d)) ≤ length area.old }
-    ensures { area.new ≡ written_at at (map (λ e. 7 * 2 ^ 28 + e) (drop d path.now)) area.old }
+// Is there room for so many words at word `at` of the area and on?
+fn has_room(area: &[u8], at: u64, words: u64) -> bool
+    ensures { result ≡ leb (at + words) (length area.now / 4) }
 {
-    let mut i = d;
-    while i < PLACES {
-        answer::put_word(area, at + (i - d), ENTRY + path[i]);
-        i += 1;
+    let room = (area.len() / 4) as u64;
+    words <= room && at <= room - words
+}
+
+// The entries on the way, "for each entry .. a word of kind 7", at word `at` of the area and on.
+fn put_entries(area: &mut [u8], at: usize, way: &[u32])
+    requires way { Way way.now }
+    requires room { 4 * (at + length way.now) ≤ length area.old }
+    ensures { area.new ≡ written_at at (map (λ e. 7 * 2 ^ 28 + e) way.now) area.old }
+{
+    for (i, e) in way.iter().enumerate() {
+        answer::put_word(area, at + i, ENTRY + *e);
     }
 }
 
 // Care and value at word `at` of the area and on.
-fn put_set(area: &mut [u8], at: usize, w: usize, p: WideSet)
-    requires width { Width w }
-    requires w_in_bounds { 4 * (at + set_words w) ≤ length area.old }
+fn put_set(area: &mut [u8], at: usize, version: Version, p: WideSet)
+    requires { 4 * (at + set_words (header_words version)) ≤ length area.old }
     ensures { area.new
-        ≡ written_at at ((narrowed w (wide_of p)).care ++ (narrowed w (wide_of p)).value) area.old }
+        ≡ written_at at ((narrowed (header_words version) (wide_of p)).care ++ (narrowed (header_words version) (wide_of p)).value)
+        area.old }
 {
-    let s = p.low;
-    let t = p.high;
-    let care = s.care;
-    let late_care = t.care;
-    let value = s.value;
-    let late_value = t.value;
+    let HeaderSet { care, value } = p.low;
+    let HeaderSet {
+        care: late_care,
+        value: late_value,
+    } = p.high;
     let cares = WideHeader {
         low: care,
         high: late_care,
@@ -91,73 +93,43 @@ fn put_set(area: &mut [u8], at: usize, w: usize, p: WideSet)
         low: value,
         high: late_value,
     };
-    answer::put_header(area, at, w, cares);
-    answer::put_header(area, at + w, w, values);
+    answer::put_header(area, at, version, cares);
+    answer::put_header(area, at + version.words(), version, values);
 }
 
-// The words of the find p at a port, at word `at` of the area and on.
-fn put_find(area: &mut [u8], at: usize, w: usize, port: u32, p: WideSet, d: usize, path: &[u32; 16])
-    requires width { Width w }
-    requires path { Path path.now d }
+// The words of a find at a port, at word `at` of the area and on.
+fn put_find(area: &mut [u8], at: usize, version: Version, port: u32, set: WideSet, way: &[u32])
+    requires way { Way way.now }
     requires port_bound { port < 4096 }
-    requires w_in_bounds { 4 * (at + (17 - d + set_words w)) ≤ length area.old }
+    requires room { 4 * (at + (1 + length way.now + set_words (header_words version))) ≤ length area.old }
     ensures { area.new ≡ written_at at
-        (find_words (record { port = port; path = drop d path.now; set = narrowed w (wide_of p) })) area.old }
+        (find_words (record { port = port; path = way.now; set = narrowed (header_words version) (wide_of set) })) area.old }
 {
-    let hops = PLACES - d;
+    let hops = way.len();
     answer::put_word(area, at, FIND + hops as u32 * HOP + port);
-    put_entries(area, at + 1, d, path);
-    put_set(area, at + 1 + hops, w, p);
+    put_entries(area, at + 1, way);
+    put_set(area, at + 1 + hops, version, set);
 }
 
-// The words of the find p at edge k, at word `at` of the area and on, if there is room for all of them.
-fn put_fitting(
-    file: &[u8],
-    area: &mut [u8],
-    at: u64,
-    w: usize,
-    k: usize,
-    p: WideSet,
-    d: usize,
-    path: &[u32; 16],
-)
-    requires width { Width w }
-    requires has_edge { HasEdge file.now k }
-    requires path { Path path.now d }
-    ensures { area.new ≡ fitted_at at
-        (find_words (narrow_find w (find_at file.now k path.now d (wide_of p)))) area.old }
-{
-    let words = words_of(w, d);
-    let room = (area.len() / 4) as u64;
-    if room < words {
-        return;
-    }
-    if room - words < at {
-        return;
-    }
-    put_find(area, at as usize, w, port_at(file, k), p, d, path);
-}
-
-// The find p at edge k, for the list: its words are written where there is room for them, and always counted.
+// A find is listed: its words are written where there is room for them, and always counted.
 pub fn list_find(
     file: &[u8],
     area: &mut [u8],
-    w: usize,
-    k: usize,
-    p: WideSet,
-    d: usize,
-    path: &[u32; 16],
-    counters: &mut [u64; 2],
+    version: Version,
+    find: &Find,
+    counters: &mut Counters,
 )
-    requires width { Width w }
-    requires has_edge { HasEdge file.now k }
-    requires path { Path path.now d }
-    requires counters_len { length counters.old ≡ 2 }
-    ensures area_after { played_of 0 counters.new area.new
-        ≡ listed w (find_at file.now k path.now d (wide_of p))
+    requires has_edge { HasEdge file.now find.now.edge }
+    requires way { Way find.now.way.now }
+    ensures { goes_on (world_of counters.new area.new)
+        ≡ listed (header_words version) (find_at file.now find.now.edge find.now.way.now (wide_of find.now.set))
         (world_of counters.old area.old) }
-    ensures counters_len_2 { length counters.new ≡ 2 }
 {
-    put_fitting(file, area, counters[1], w, k, p, d, path);
-    count_find(w, d, counters);
+    let Find { edge, set, way } = *find;
+    let at = counters.words;
+    let words = words_of(version, way.len());
+    count_words(words, counters);
+    if has_room(area, at, words) {
+        put_find(area, at as usize, version, port_at(file, edge), set, way);
+    }
 }

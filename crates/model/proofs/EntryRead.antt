@@ -3,7 +3,7 @@ use mathlib.Core.List.{List}
 use mathlib.Core.Path.{◌≡◌, sym, ap, ◌∙◌, subst}
 use Prim.Native.Nat.{ℕ, ◌<◌}
 use Rattle.layout.specs.Records.{width_in, entry_priority, entry_in, entry_out, entry_match, entry_action, entry_bytes, EntryLong}
-use Rattle.layout.specs.declared.Shape.{Shape}
+use Rattle.layout.specs.Shape.{Shape}
 use Rattle.layout.proofs.Widths.{width_said}
 use Rattle.file.specs.Accepted.{Accepted}
 use Rattle.file.specs.Accepted as Known

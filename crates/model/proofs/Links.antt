@@ -5,7 +5,7 @@ use mathlib.Core.Path.{◌≡◌, refl, sym, ap, ◌∙◌}
 use Prim.Native.Nat.{ℕ, zero, suc, ◌<◌}
 use native.Mathlib.Omega.{arith}
 use Rattle.layout.specs.Records.{from_of_link, to_of_link, recent}
-use Rattle.layout.specs.declared.Shape.{Shape}
+use Rattle.layout.specs.Shape.{Shape}
 use Rattle.questions.specs.Tables.{number}
 use Rattle.questions.proofs.Lists.{number_is, number_has}
 use Rattle.file.specs.Accepted.{Accepted}

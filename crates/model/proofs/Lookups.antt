@@ -8,7 +8,7 @@ use lib.Dec.{ltb}
 use lib.ListN.{get_or}
 use Rattle.headers.proofs.Booleans.{refuted}
 use Rattle.layout.specs.Records.{edge_group, from_of_link, to_of_link, edge_bytes}
-use Rattle.layout.specs.declared.Shape.{Shape}
+use Rattle.layout.specs.Shape.{Shape}
 use Rattle.questions.specs.Tables.{EdgeTable, StartTable}
 use Rattle.questions.proofs.Lists.{number_has}
 use Rattle.file.specs.Accepted.{Accepted}

@@ -8,7 +8,7 @@ use lib.Dec.{ltb, eqb}
 use borrow.Author.Tests.{lt-ltb}
 use Rattle.layout.specs.Words.{word_at, choice_of}
 use Rattle.layout.specs.Records.{width_in, edge_group, edge_admitted, port_of_edge, edge_bytes, entry_bytes, recent}
-use Rattle.layout.specs.declared.Shape.{Shape}
+use Rattle.layout.specs.Shape.{Shape}
 use Rattle.questions.specs.Questions.{pick}
 use Rattle.questions.specs.Tables.{number}
 use Rattle.questions.proofs.Lists.{number_is, number_has}

@@ -10,7 +10,7 @@ use borrow.Author.Tests.{lt-ltb, le-ltb}
 use Rattle.headers.specs.Sets.{WellFormed, Written, all_wild}
 use Rattle.headers.proofs.Members.{all_wild_well_formed, no_bits}
 use Rattle.layout.specs.Records.{width_in, edge_admitted, port_of_edge, from_of_link, to_of_link, edge_bytes, entry_bytes, recent}
-use Rattle.layout.specs.declared.Shape.{Shape}
+use Rattle.layout.specs.Shape.{Shape}
 use Rattle.layout.proofs.Widths.{width_is}
 use Rattle.questions.specs.Questions.{pick}
 use Rattle.questions.specs.Tables.{number}

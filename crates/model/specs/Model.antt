@@ -5,11 +5,11 @@ use Rattle.headers.specs.Actions.{no_action}
 use Rattle.layout.specs.Words.{word_at, choice_of}
 use Rattle.layout.specs.Records.{width_in, edge_group, edge_admitted, entry_priority, entry_in, entry_out, entry_match, entry_action}
 use Rattle.layout.specs.Records.{place_of, port_of_edge, from_of_link, to_of_link, recent, edge_bytes, entry_bytes}
-use Rattle.layout.specs.declared.Shape.{Shape}
+use Rattle.layout.specs.Shape.{Shape}
 use Rattle.questions.specs.Questions.{pick, shape, accepted}
 use Rattle.questions.specs.Tables.{number}
-use Rattle.questions.specs.declared.Read.{Read}
-use Rattle.questions.specs.declared.Read.TheVariants.{Fabric, No}
+use Rattle.questions.specs.Read.{Read}
+use Rattle.questions.specs.Read.{Fabric, No}
 use Rattle.wide.specs.Forms.{wide_words}
 use Rattle.file.specs.Accepted.{Accepted}
 use Rattle.forwarding.specs.Fabric as Forwarding

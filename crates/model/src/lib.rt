@@ -2,15 +2,16 @@
 // specs/Model.antt.
 #![tactic(auto)]
 
-ghost use Rattle.std.specs.Prelude.{◌≡◌, ℕ, ◌≤◌, ◌<◌, leb};
+ghost use Rattle.std.specs.Prelude.{◌≡◌, ℕ, ◌<◌, leb};
 ghost use Rattle.wide.specs.Forms.{words_of};
-ghost use Rattle.file.specs.Accepted.{Accepted};
-ghost use Rattle.forwarding.specs.Fabric.{outranks};
+ghost use Rattle.forwarding.specs.Best.{candidate};
+ghost use Rattle.forwarding.specs.Fabric.{priority_of, outranks};
 ghost use Rattle.model.specs.Model.{fabric_in, wide_in};
-ghost use Rattle.model.specs.Taking.{Takes, Better};
+ghost use Rattle.model.specs.Taking.{AmongEntries, Takes, Better};
 
-use layout::Shape;
+use file::Fabric;
 use records::MATCH;
+use stored::StoredSet;
 use wide::WideHeader;
 
 // Does an entry of priority p beat one of priority q at the same in-port? The tie rule stands here, and in `least_above`, alone.
@@ -29,72 +30,76 @@ pub fn least_above(q: u32) -> u32
 }
 
 // Is a packet that no entry takes dropped (OpenFlow 1.3), and not lost?
-pub fn miss_drops(file: &[u8], shape: Shape) -> bool
-    requires { Accepted file.now shape }
-    ensures { result ≡ (fabric_in file.now).miss_drops }
+pub fn miss_drops(fabric: &Fabric) -> bool
+    ensures { result ≡ (fabric_in fabric.now.file.now).miss_drops }
 {
-    records::choice_of(records::word(file, 0)) == 1
+    records::choice_of(records::word(fabric.file, 0)) == 1
 }
 
-// One of the highest entries that match so far, and whether another of its priority does; the number of entries stands for 'none'.
+// The entries that may take a header: none, one, or several of one priority, the first of which is named.
 #[derive(Clone, Copy)]
-pub struct Best {
-    pub entry: usize,
-    pub tied: bool,
+pub enum Takers {
+    Nobody,
+    One(usize),
+    Several(usize),
 }
 
-// The best so far with entry i, for a header h at in-port x.
-fn better(file: &[u8], shape: Shape, x: u32, h: WideHeader, i: usize, best: Best) -> Best
-    requires accepted { Accepted file.now shape }
-    requires i_lt_entries { i < shape.entries }
-    requires best_le_entries { best.entry ≤ shape.entries }
-    ensures { Better (wide_in file.now) x (words_of h) i best result }
+// Does entry i stand at in-port x, and does its match hold a header h?
+fn is_candidate(fabric: &Fabric, x: u32, h: WideHeader, i: usize) -> bool
+    requires { i < fabric.now.counts.entries }
+    ensures { result ≡ candidate (wide_in fabric.now.file.now) x (words_of h) i }
 {
-    let e = file::entry(file, shape, i);
+    let e = fabric.entry(i);
     if records::in_port(e) != x {
+        return false;
+    }
+    let matches = StoredSet {
+        bytes: e,
+        at: MATCH,
+        version: fabric.counts.version,
+    };
+    matches.holds(h)
+}
+
+fn priority(fabric: &Fabric, i: usize) -> u32
+    requires { i < fabric.now.counts.entries }
+    ensures { result ≡ priority_of (fabric_in fabric.now.file.now) i }
+{
+    records::priority(fabric.entry(i))
+}
+
+// The highest candidates so far, with entry i, for a header h at in-port x.
+fn better(fabric: &Fabric, x: u32, h: WideHeader, i: usize, best: Takers) -> Takers
+    requires i_lt_entries { i < fabric.now.counts.entries }
+    requires best_lt_entries { AmongEntries fabric.now.counts.entries best }
+    ensures { Better (wide_in fabric.now.file.now) x (words_of h) i best result }
+{
+    if !is_candidate(fabric, x, h, i) {
         return best;
     }
-    if !stored::holds(e, MATCH, shape.words, h) {
-        return best;
-    }
-    let at = best.entry;
-    if at == shape.entries {
-        return Best {
-            entry: i,
-            tied: false,
-        };
-    }
-    let p = records::priority(file::entry(file, shape, at));
-    let q = records::priority(e);
-    if outranks(q, p) {
-        return Best {
-            entry: i,
-            tied: false,
-        };
-    }
-    if outranks(p, q) {
-        return best;
-    }
-    Best {
-        entry: at,
-        tied: true,
+    match best {
+        Takers::Nobody => Takers::One(i),
+        Takers::One(at) | Takers::Several(at) => {
+            let p = priority(fabric, at);
+            let q = priority(fabric, i);
+            if outranks(q, p) {
+                Takers::One(i)
+            } else if outranks(p, q) {
+                best
+            } else {
+                Takers::Several(at)
+            }
+        }
     }
 }
 
 // The entries that may take a header h at in-port x.
-pub fn taker(file: &[u8], shape: Shape, x: u32, h: WideHeader) -> Best
-    requires { Accepted file.now shape }
-    ensures { Takes (wide_in file.now) x (words_of h) result }
+pub fn taker(fabric: &Fabric, x: u32, h: WideHeader) -> Takers
+    ensures { Takes (wide_in fabric.now.file.now) x (words_of h) result }
 {
-    let n = shape.entries;
-    let mut best = Best {
-        entry: n,
-        tied: false,
-    };
-    let mut i: usize = 0;
-    while i < n {
-        best = better(file, shape, x, h, i, best);
-        i += 1;
+    let mut best = Takers::Nobody;
+    for i in 0..fabric.counts.entries {
+        best = better(fabric, x, h, i, best);
     }
     best
 }

@@ -5,75 +5,68 @@ ghost use Rattle.std.specs.Prelude.{true, ◌≡◌, ◌*◌, ◌≤◌, length}
 ghost use Rattle.answer.specs.Answer.{answer_words};
 ghost use Rattle.layout.specs.Records.{width_in};
 ghost use Rattle.wide.specs.Forms.{wide_of};
-ghost use Rattle.questions.specs.Tables.{EdgeTable};
-ghost use Rattle.file.specs.Accepted.{Accepted};
 ghost use Rattle.model.specs.Model.{fabric_in};
 ghost use Rattle.index.specs.Index.{Index};
+ghost use Rattle.events.specs.Asked.{mode_number};
 ghost use Rattle.events.specs.Pass.{played_then, pass_of};
 
-use events::Passed;
-use index::CELLS;
-use layout::Shape;
-use wide::WideSet;
+use events::{Ask, Counters, Mode, Passed};
+use file::EdgePorts;
+use index::{CELLS, Place};
+use trials::Trace;
+use wide::Query;
 
 // The group of the edge at a port.
-fn group_at(file: &[u8], shape: Shape, edge_of: &[u16; 4096], port: u32) -> u32
-    requires accepted { Accepted file.now shape }
-    requires edge_table { EdgeTable file.now shape.edges edge_of.now }
-    requires port_value { (fabric_in file.now).is_edge port ≡ true }
-    ensures { result ≡ (fabric_in file.now).group port }
+fn group_at(edges: &EdgePorts, port: u32) -> u32
+    requires { (fabric_in edges.now.fabric.file.now).is_edge port ≡ true }
+    ensures { result ≡ (fabric_in edges.now.fabric.file.now).group port }
 {
-    let k = edge_of[port as usize];
-    records::group(file::edge(file, (k - 1) as usize))
+    let k = edges.at[port as usize];
+    records::group(edges.fabric.edge(usize::from(k - 1)))
 }
 
-// One pass: the finds are listed or judged, as the mode says.
+// One pass back from a target, an edge port: the finds are listed or judged, as the mode says. The index is an array of the caller's, made
+// once for several passes, and the limit a number of the query's that question 9 let through, so clauses say it of both.
 pub fn pass(
-    file: &[u8],
-    area: &mut [u8],
-    shape: Shape,
-    edge_of: &[u16; 4096],
+    edges: &EdgePorts,
     index: &[u16; CELLS],
-    mode: u32,
-    target: u32,
-    limit: u32,
-    budget: u32,
-    asked: WideSet,
+    mode: Mode,
+    query: &Query,
+    area: &mut [u8],
 ) -> Passed
-    requires accepted { Accepted file.now shape }
-    requires edge_table { EdgeTable file.now shape.edges edge_of.now }
-    requires index { Index file.now index.now }
-    requires target_value { (fabric_in file.now).is_edge target ≡ true }
-    requires le_limit { (1 ≤ limit) × (limit ≤ 16) }
-    requires file_in_bounds { mode ≡ 3 → 4 * answer_words (width_in file.now) ≤ length area.old }
+    requires index { Index edges.now.fabric.file.now index.now }
+    requires target_value { (fabric_in edges.now.fabric.file.now).is_edge query.now.port ≡ true }
+    requires le_limit { (1 ≤ query.now.limit) × (query.now.limit ≤ 16) }
+    requires file_in_bounds { mode_number mode ≡ 3 → 4 * answer_words (width_in edges.now.fabric.file.now) ≤ length area.old }
     ensures { played_then result area.new
-        ≡ pass_of file.now mode target limit budget (wide_of asked) area.old }
+        ≡ pass_of edges.now.fabric.file.now (mode_number mode) query.now.port query.now.limit query.now.budget
+        (wide_of query.now.asked) area.old }
 {
-    let ask = [
-        budget,
+    let ask = Ask {
+        budget: query.budget,
         mode,
-        16 - limit,
-        target,
-        group_at(file, shape, edge_of, target),
-        entries::entries_at(file, shape),
-        shape.words as u32,
-    ];
-    let mut path = [0u32; 16];
-    let mut counters = [0u64; 2];
-    let status = backtrace::stop(
-        file,
-        &ask,
+        floor: 16 - query.limit as usize,
+        target: query.port,
+        group: group_at(edges, query.port),
+        base: entries::entries_at(&edges.fabric) as usize,
+        version: edges.fabric.counts.version,
+    };
+    let trace = Trace {
+        file: edges.fabric.file,
+        ask,
         index,
+    };
+    let target = Place::Port(query.port as usize);
+    let mut path = [0u32; 16];
+    let mut counters = Counters { made: 0, words: 0 };
+    let ended = backtrace::stop(
+        &trace,
         area,
-        target as usize,
-        asked,
+        target,
+        query.asked,
         16,
         &mut path,
         &mut counters,
     );
-    Passed {
-        status,
-        made: counters[0],
-        words: counters[1],
-    }
+    Passed { ended, counters }
 }

@@ -1,6 +1,6 @@
 -- Questions 3 to 7, kind by kind, of the record after e edges, l links and n entries, in a file whose headers have hw words.
 use mathlib.Core.Bool.{Bool, true, false, not, ◌&&◌, and-true, and-false}
-use mathlib.Core.List.{List, [], ◌∷◌}
+use mathlib.Core.List.{List}
 use mathlib.Core.Path.{◌≡◌}
 use Prim.Native.Nat.{ℕ, ◌+◌, ◌≤◌, ◌<◌}
 use native.Mathlib.Omega.{arith}
@@ -11,11 +11,12 @@ use Rattle.layout.specs.Records.{width_in, admitted_at, edge_words, match_at, re
 use Rattle.layout.specs.Records.{port_of_edge, from_of_link, to_of_link, in_of_entry, recent}
 use Rattle.layout.specs.Limits.{most_entries}
 use Rattle.layout.proofs.Words.{port_range, from_range}
-use Rattle.questions.specs.Questions.{pick, latest, times, ◌asks◌, first_no, clean, version}
+use Rattle.questions.specs.Questions.{pick, latest, times, clean, version}
 use Rattle.questions.specs.Questions.{asked, in_order, ports_right, sets_tidy, link_free, within_limits, started}
 use Rattle.questions.specs.Reading.{last_kind, passed_at, Here, asked_at}
 use Rattle.questions.specs.Tables.{number}
 use Rattle.questions.proofs.Lists.{recent_long, elem_number}
+use Rattle.questions.proofs.Turns.{InTurn}
 
 -- ---- the last kind
 
@@ -47,14 +48,14 @@ module _ (f : List ℕ) (hw e at w size : ℕ) (hh : hw ≡ width_in f) (h : Her
 
   pub edge_asked : at + size ≤ words_in f → (last port r : ℕ) (t : Bool)
       → last ≡ latest (recent (port_of_edge f) e) → port ≡ port_of w → t ≡ clean hw (set_from hw f (at + admitted_at))
-      → r ≡ first_no (3 asks true ∷ 4 asks (leb 1 port && ltb last port) ∷ 5 asks t ∷ 6 asks true ∷ 7 asks ltb e 64 ∷ [])
+      → InTurn r true (leb 1 port && ltb last port) t true (ltb e 64)
       → r ≡ asked_at f e 0 0
   unfolding asked in_order ports_right sets_tidy link_free within_limits passed_at
   edge_asked fits last port r t hl hp ht hr =
       let i = lt-ltb (place_in f e 0 0) (words_in f) h.inside in
       let j = le-leb (place_in f e 0 0 + edge_words (width_in f)) (words_in f) (rw (ha, hs, hh) at fits) in
       let o = le-leb (last_kind e 0 0) 2 (up_to_edges e 2 (omega arith)) in
-      rw (hr, hl, hp, ht, ha, hh, h.word_is) (simp (edge_kind, o, port_range, and-true, recent_long, i, j))
+      rw (hr.said, hl, hp, ht, ha, hh, h.word_is) (simp (edge_kind, o, port_range, and-true, recent_long, i, j))
 
 -- ---- a link
 
@@ -66,16 +67,15 @@ module _ (f : List ℕ) (e l w : ℕ) (h : Here f e l 0 3 w) where
       → last ≡ latest (recent (from_of_link f e) l) → from ≡ from_of w → to ≡ port_of w
       → mf ≡ number (recent (port_of_edge f) e) from → mt ≡ number (recent (port_of_edge f) e) to
       → me ≡ number (recent (to_of_link f e) l) to
-      → r ≡ first_no (3 asks eqb (bits 27 24 w) 0
-      ∷ 4 asks (leb 1 from && leb 1 to && ltb last from && not (eqb from to))
-      ∷ 5 asks true ∷ 6 asks (eqb mf 0 && eqb mt 0 && eqb me 0) ∷ 7 asks ltb l 256 ∷ [])
+      → InTurn r (eqb (bits 27 24 w) 0) (leb 1 from && leb 1 to && ltb last from && not (eqb from to)) true
+      (eqb mf 0 && eqb mt 0 && eqb me 0) (ltb l 256)
       → r ≡ asked_at f e l 0
   unfolding asked in_order ports_right sets_tidy link_free within_limits passed_at
   link_asked last from to mf mt me r hl hf ht hmf hmt hme hr =
       let i = lt-ltb (place_in f e l 0) (words_in f) h.inside in
       let j = le-leb (place_in f e l 0 + 1) (words_in f) (omega (arith, h.inside)) in
       let o = le-leb (last_kind e l 0) 3 (up_to_links e l 3 (omega arith)) in
-      rw (hr, hmf, hmt, hme, hl, hf, ht, h.word_is)
+      rw (hr.said, hmf, hmt, hme, hl, hf, ht, h.word_is)
       (simp (link_kind, o, port_range, from_range, and-true, recent_long, elem_number, i, j))
 
 -- ---- an entry
@@ -97,15 +97,14 @@ module _ (f : List ℕ) (hw e l n at w size : ℕ) (hh : hw ≡ width_in f) (h :
       → s ≡ clean hw (set_from hw f (at + match_at))
       → rewrite ≡ rewrite_at hw → t ≡ clean hw (set_from hw f (at + rewrite))
       → most ≡ most_entries hw → m ≡ times port (recent (in_of_entry f e l) n)
-      → r ≡ first_no (3 asks (eqb spare 0 && leb transfer 2) ∷ 4 asks (leb 1 port && not (eqb port out)) ∷ 5 asks (s && t)
-      ∷ 6 asks true ∷ 7 asks (ltb n most && ltb m 64) ∷ [])
+      → InTurn r (eqb spare 0 && leb transfer 2) (leb 1 port && not (eqb port out)) (s && t) true (ltb n most && ltb m 64)
       → r ≡ asked_at f e l n
   unfolding asked in_order ports_right sets_tidy link_free within_limits passed_at
   entry_asked fits second port spare transfer out rewrite most m r s t h2 hp hz hk ho hs' hx ht hn hm hr =
       let i = lt-ltb (place_in f e l n) (words_in f) h.inside in
       let j = le-leb (place_in f e l n + entry_words (width_in f)) (words_in f) (rw (ha, hs, hh) at fits) in
       let o = le-leb (last_kind e l n) 4 (up_to_entries e l n 4 (omega arith)) in
-      rw (hr, hm, hn, hs', ht, hx, ho, hz, hk, h2, hp, ha, hh, h.word_is)
+      rw (hr.said, hm, hn, hs', ht, hx, ho, hz, hk, h2, hp, ha, hh, h.word_is)
       (simp (entry_kind, o, port_range, and-true, recent_long, i, j))
 
 -- ---- question 2

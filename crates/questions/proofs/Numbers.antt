@@ -9,8 +9,8 @@ use Rattle.layout.specs.Words.{words_in}
 use Rattle.layout.specs.Records.{width_in}
 use Rattle.questions.specs.Questions.{pick, Question, ◌asks◌, first_no, or_else, Passed, after_start, kind, asked, passed, shape_of}
 use Rattle.questions.specs.Questions.{in_order, ports_right, sets_tidy, link_free, within_limits, records, sized, started, accepted}
-use Rattle.questions.specs.declared.Read.{Read}
-use Rattle.questions.specs.declared.Read.TheVariants.{Fabric, No}
+use Rattle.questions.specs.Read.{Read}
+use Rattle.questions.specs.Read.{Fabric, No}
 
 -- no question has a number above m
 abbrev pub UpTo : ℕ → List Question → Type 0

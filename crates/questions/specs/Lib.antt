@@ -1,3 +1,5 @@
+pub mod Read
+pub mod Refusals
 pub mod Questions
 pub mod Reading
 pub mod Tables

@@ -8,9 +8,9 @@ use Rattle.headers.specs.Sets.{Set, tidy, writes}
 use Rattle.layout.specs.Words.{word_at, words_in, bits, kind_of, version_of, count_of, transfer_of, port_of, from_of}
 use Rattle.layout.specs.Records.{half, width_in, admitted_at, edge_words, match_at, rewrite_at, entry_words, set_from, rewrite_from}
 use Rattle.layout.specs.Limits.{most_edges, most_links, most_entries, most_at_port, most_bytes}
-use Rattle.layout.specs.declared.Shape.{Shape}
-use Rattle.questions.specs.declared.Read.{Read}
-use Rattle.questions.specs.declared.Read.TheVariants.{Fabric, No}
+use Rattle.layout.specs.Shape.{Shape}
+use Rattle.questions.specs.Read.{Read}
+use Rattle.questions.specs.Read.{Fabric, No}
 
 -- a if the test holds, else b
 abbrev pub pick : {A : Type 0} → Bool → A → A → A

@@ -1,12 +1,42 @@
-// The questions that document 01 asks of a fabric file, 1 to 7: what is asked stands in specs/Questions.antt; what came before a record is
-// known by counts and tables, specs/Reading.antt. The crates above have the code: `file_questions` and `record_questions`.
+// The questions that document 01 asks, by their numbers. What 1 to 7 ask of a fabric file stands in specs/Questions.antt; what came before
+// a record is known by counts and tables, specs/Reading.antt. The crates above have the code: `file_questions`, `record_questions` and
+// `entry_questions` ask of a file, `queries` of a query.
 #![tactic(auto)]
 
-use layout::Shape;
+ghost use Rattle.std.specs.Prelude.{◌≡◌};
+ghost use Rattle.questions.specs.Refusals.{number};
 
-// The fabric's shape, or the number and the place of the first no.
+// The questions, each by what a no to it refuses.
+#[derive(Clone, Copy, PartialEq, Eq)]
+pub enum Refusal {
+    Size = 1,
+    Start,
+    Order,
+    Ports,
+    Tidiness,
+    Ends,
+    Limits,
+    Target,
+    HopLimit,
+    AskedSet,
+    StartPort,
+    Room,
+    Budget,
+    Input,
+}
+
+impl Refusal {
+    // The question's number.
+    pub fn number(self) -> u32
+        ensures { result ≡ number self }
+    {
+        self as u32
+    }
+}
+
+// The first question that got a no, and the place of the record that got it.
 #[derive(Clone, Copy)]
-pub enum Read {
-    Fabric(Shape),
-    No(u32, u32),
+pub struct No {
+    pub refusal: Refusal,
+    pub place: u32,
 }

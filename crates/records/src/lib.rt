@@ -2,19 +2,20 @@
 // crates/layout.
 #![tactic(auto)]
 
-ghost use Rattle.std.specs.Prelude.{◌≡◌, ◌+◌, ◌*◌, ◌<◌, ◌≤◌, length};
+ghost use Rattle.std.specs.Prelude.{◌≡◌, ◌+◌, ◌*◌, ◌<◌, ◌≤◌, eqb, length};
 ghost use Rattle.sets.specs.Forms.{form_of};
 ghost use Rattle.layout.specs.Words.{word_at, words_in, words_from, bytes_from, kind_of, transfer_of, port_of, from_of, rank_of};
 ghost use Rattle.layout.specs.Words.{version_of, count_of, choice_of};
-ghost use Rattle.layout.specs.Records.{Width, width_in, set_words, edge_words, rewrite_at, entry_words, half_from, low_from, high_from};
+ghost use Rattle.layout.specs.Versions.{header_words};
+ghost use Rattle.layout.specs.Records.{width_in, set_words, edge_words, rewrite_at, entry_words, half_from, low_from, high_from};
 ghost use Rattle.layout.specs.Records.{edge_group, edge_port, entry_priority, entry_in, entry_out, transfer_at, entry_transfer, place_of};
 ghost use Rattle.layout.specs.Limits.{most_words};
+ghost use Rattle.records.specs.Kinds.{kind_number};
 
 use headers::Transfer;
+use layout::{HALF, Version};
 use sets::HeaderSet;
-
-// The words of a header in a file of version 1; version 2 has twice as many.
-pub const HALF: usize = 4;
+use std::array;
 
 // An edge is a word and its admitted set.
 pub const ADMITTED: usize = 1;
@@ -28,13 +29,25 @@ pub const PORTS: u32 = 4096;
 // A kind, or the number of a transfer, is the four bits above these values.
 const BELOW_KIND: u32 = 0x1000_0000;
 
-// ---- words
-
-fn wide(b: u8) -> u32
-    ensures { (result ≡ b) × (result < 256) }
-{
-    b as u32
+// The kinds of records, by their numbers.
+#[derive(Clone, Copy, PartialEq, Eq)]
+pub enum Kind {
+    Start = 1,
+    Edge,
+    Link,
+    Entry,
+    End,
 }
+
+impl Kind {
+    pub fn number(self) -> u32
+        ensures { result ≡ kind_number self }
+    {
+        self as u32
+    }
+}
+
+// ---- words
 
 // Word k of the file, or of a part of it.
 pub fn word(file: &[u8], k: usize) -> u32
@@ -42,16 +55,20 @@ pub fn word(file: &[u8], k: usize) -> u32
     ensures { result ≡ word_at file.now k }
 {
     let i = k * 4;
-    wide(file[i])
-        + wide(file[i + 1]) * 0x100
-        + wide(file[i + 2]) * 0x1_0000
-        + wide(file[i + 3]) * 0x100_0000
+    u32::from_le_bytes([file[i], file[i + 1], file[i + 2], file[i + 3]])
 }
 
 pub fn kind_of(w: u32) -> u32
     ensures { result ≡ kind_of w }
 {
     w / BELOW_KIND
+}
+
+// Is this the first word of a record of this kind?
+pub fn is_kind(w: u32, kind: Kind) -> bool
+    ensures { result ≡ eqb (kind_of w) (kind_number kind) }
+{
+    kind_of(w) == kind.number()
 }
 
 pub fn version_of(w: u32) -> u32
@@ -72,6 +89,7 @@ pub fn choice_of(w: u32) -> u32
     w / 0x800_0000 % 2
 }
 
+// The same four bits as a kind's, in another word: document 01 has two fields, and each reads by its name.
 pub fn transfer_of(w: u32) -> u32
     ensures { result ≡ transfer_of w }
 {
@@ -96,96 +114,85 @@ pub fn rank_of(w: u32) -> u32
     w / PORTS % 0x1_0000
 }
 
-// ---- widths, which follow from w, the words of a header
+// ---- widths, which follow from the file's version
 
-// The words of a header in this file, by the version that its start says.
-pub fn width(file: &[u8]) -> usize
+// The version that this file's start says: one that question 2 lets through is 1 or 2.
+pub fn version(file: &[u8]) -> Version
     requires { 0 < words_in file.now }
-    ensures { result ≡ width_in file.now }
+    ensures { header_words result ≡ width_in file.now }
 {
     if version_of(word(file, 0)) == 2 {
-        2 * HALF
+        Version::Two
     } else {
-        HALF
+        Version::One
     }
 }
 
-pub fn edge_words(w: usize) -> usize
-    requires { Width w }
-    ensures { result ≡ edge_words w }
+pub fn edge_words(version: Version) -> usize
+    ensures { result ≡ edge_words (header_words version) }
 {
-    ADMITTED + 2 * w
+    ADMITTED + 2 * version.words()
 }
 
-pub fn rewrite_at(w: usize) -> usize
-    requires { Width w }
-    ensures { result ≡ rewrite_at w }
+pub fn rewrite_at(version: Version) -> usize
+    ensures { result ≡ rewrite_at (header_words version) }
 {
-    MATCH + 2 * w
+    MATCH + 2 * version.words()
 }
 
-pub fn entry_words(w: usize) -> usize
-    requires { Width w }
-    ensures { result ≡ entry_words w }
+pub fn entry_words(version: Version) -> usize
+    ensures { result ≡ entry_words (header_words version) }
 {
-    MATCH + 4 * w
+    MATCH + 4 * version.words()
 }
 
-// ---- a set of w words by its halves of four
+// ---- a set by its halves of four words
 
 pub fn four_at(file: &[u8], k: usize) -> [u32; 4]
     requires { k + 4 ≤ words_in file.now }
     ensures { result ≡ words_from 4 file.now k }
 {
-    [
-        word(file, k),
-        word(file, k + 1),
-        word(file, k + 2),
-        word(file, k + 3),
-    ]
+    array::from_fn(|i| word(file, k + i))
 }
 
-// Four words of care from word k on, and of value w words later.
-fn half_at(file: &[u8], k: usize, w: usize) -> HeaderSet
-    requires { k + w + 4 ≤ words_in file.now }
-    ensures { result ≡ form_of (half_from w file.now k) }
+// Four words of care from word k on, and of value as many words later as a header has.
+fn half_at(file: &[u8], k: usize, version: Version) -> HeaderSet
+    requires { k + header_words version + 4 ≤ words_in file.now }
+    ensures { result ≡ form_of (half_from (header_words version) file.now k) }
 {
     HeaderSet {
         care: four_at(file, k),
-        value: four_at(file, k + w),
+        value: four_at(file, k + version.words()),
     }
 }
 
 // The first four words of the set from word k on.
-pub fn low_at(file: &[u8], k: usize, w: usize) -> HeaderSet
-    requires w_bound { k + set_words w ≤ words_in file.now }
-    requires width { Width w }
-    ensures { result ≡ form_of (low_from w file.now k) }
+pub fn low_at(file: &[u8], k: usize, version: Version) -> HeaderSet
+    requires { k + set_words (header_words version) ≤ words_in file.now }
+    ensures { result ≡ form_of (low_from (header_words version) file.now k) }
 {
-    half_at(file, k, w)
+    half_at(file, k, version)
 }
 
 // Its last four of eight words; of a set of four words they are wild.
-pub fn high_at(file: &[u8], k: usize, w: usize) -> HeaderSet
-    requires w_bound { k + set_words w ≤ words_in file.now }
-    requires width { Width w }
-    ensures { result ≡ form_of (high_from w file.now k) }
+pub fn high_at(file: &[u8], k: usize, version: Version) -> HeaderSet
+    requires { k + set_words (header_words version) ≤ words_in file.now }
+    ensures { result ≡ form_of (high_from (header_words version) file.now k) }
 {
-    if w == HALF {
-        return HeaderSet::all_wild();
+    match version {
+        Version::One => HeaderSet::all_wild(),
+        Version::Two => half_at(file, k + HALF, version),
     }
-    half_at(file, k + HALF, w)
 }
 
 // ---- where a record stands, and its own bytes
 
 // The first word of the record after e edges, l links and n entries.
-pub fn place(w: usize, e: usize, l: usize, n: usize) -> usize
-    requires width { Width w }
-    requires n_bound { place_of w e l n ≤ most_words }
-    ensures { result ≡ place_of w e l n }
+pub fn place(version: Version, e: usize, l: usize, n: usize) -> usize
+    requires { place_of (header_words version) e l n ≤ most_words }
+    ensures { result ≡ place_of (header_words version) e l n }
 {
-    1 + edge_words(w) * e + l + entry_words(w) * n
+    1 + edge_words(version) * e + l + entry_words(version) * n
 }
 
 // The bytes of n words from word k on.
@@ -197,7 +204,7 @@ pub fn part<'a>(file: &'a [u8], k: usize, n: usize) -> &'a [u8]
     &file[a..a + 4 * n]
 }
 
-// ---- the fields of an entry's own bytes
+// ---- the fields of an entry's own bytes: each asks for the two words alone that they stand in, and so do those of an edge
 
 pub fn priority(entry: &[u8]) -> u32
     requires { 8 ≤ length entry.now }
@@ -220,17 +227,15 @@ pub fn out_port(entry: &[u8]) -> u32
     port_of(word(entry, 1))
 }
 
-// The transfer with this number.
+// The transfer with this number. Question 3 asks whether there is one; here every number has its transfer, so this is no TryFrom.
 fn transfer_at(number: u32) -> Transfer
     ensures { result ≡ transfer_at number }
 {
-    if number == 0 {
-        return Transfer::Keep;
+    match number {
+        0 => Transfer::Keep,
+        1 => Transfer::Copy,
+        _ => Transfer::Swap,
     }
-    if number == 1 {
-        return Transfer::Copy;
-    }
-    Transfer::Swap
 }
 
 pub fn transfer(entry: &[u8]) -> Transfer

@@ -1,62 +1,47 @@
-// Document 01's packet run on an accepted fabric: questions 9 to 12, and the answer. It returns the number of the first no, or the words
-// of its answer × 256; after a no every lent byte is as it was.
+// Document 01's packet run on an accepted fabric: questions 9 to 12, and the answer. It returns the words of its answer, or the first
+// question that got a no; after a no every lent byte is as it was.
 #![tactic(auto)]
 
-ghost use Rattle.std.specs.Prelude.{◌≡◌};
+ghost use Rattle.std.specs.Prelude.{◌≡◌, ◌^◌, ◌<◌};
 ghost use Rattle.answer.specs.Answer.{outcome};
-ghost use Rattle.wide.specs.Forms.{wide_of, narrowed, Fits};
-ghost use Rattle.questions.specs.Tables.{EdgeTable, StartTable};
-ghost use Rattle.questions.specs.declared.Read.TheVariants.{Fabric};
-ghost use Rattle.file.specs.Accepted.{Accepted};
-ghost use Rattle.calls.specs.Questions.{query};
+ghost use Rattle.layout.specs.Versions.{header_words};
+ghost use Rattle.wide.specs.Forms.{wide_of, Fits};
+ghost use Rattle.questions.specs.Refusals.{read_of};
+ghost use Rattle.calls.specs.Codes.{code_of, query_of};
 ghost use Rattle.calls.specs.Run.{run_answer};
 
-use answer::{answer_words, answered};
-use layout::Shape;
+use answer::answer_words;
+use file::{EdgePorts, LinkPorts};
+use questions::Refusal;
 use record_questions::ask;
-use wide::{WideHeader, WideSet};
+use wide::{Query, WideHeader};
 
 // The run of a packet on an accepted file, after questions 9 to 12.
 pub fn run_accepted(
-    file: &[u8],
+    edges: &EdgePorts,
+    links: &LinkPorts,
     area: &mut [u8],
-    shape: Shape,
-    edge_of: &[u16; 4096],
-    starts: &[u16; 4096],
-    start: u32,
-    limit: u32,
-    budget: u32,
-    asked: WideSet,
-) -> u64
-    requires accepted { Accepted file.now shape }
-    requires edge_table { EdgeTable file.now shape.edges edge_of.now }
-    requires start_table { StartTable file.now shape.edges shape.links starts.now }
-    requires fits { Fits shape.words (wide_of asked) }
-    ensures { outcome result area.new ≡ run_answer file.now
-        (query start limit budget (narrowed shape.words (wide_of asked))) (Fabric shape) area.old }
+    query: Query,
+) -> Result<u64, Refusal>
+    requires same_file { links.now.fabric.file.now ≡ edges.now.fabric.file.now }
+    requires fits { Fits (header_words edges.now.fabric.counts.version) (wide_of query.asked) }
+    ensures answers { outcome (code_of result) area.new ≡ run_answer edges.now.fabric.file.now
+        (query_of edges.now.fabric.counts.version query) (read_of (Ok edges.now.fabric.counts)) area.old }
+    ensures few { code_of result < 2 ^ 64 }
 {
-    let w = shape.words;
+    let version = edges.fabric.counts.version;
+    let asked = query.asked;
     let tidy = queries::is_clean(asked);
-    let all = queries::cares_for_all(w, asked);
-    let edge = queries::is_edge(file, shape, edge_of, start);
-    let room = 4 * answer_words(w) <= area.len();
-    let no = ask(
-        9,
-        queries::limit_right(limit),
-        ask(10, tidy & all, ask(11, edge, ask(12, room, 0))),
-    );
-    if no != 0 {
-        return no as u64;
-    }
-    let low = asked.low;
-    let high = asked.high;
-    let first = low.value;
-    let last = high.value;
-    let header = WideHeader {
-        low: first,
-        high: last,
-    };
-    let j = journey::travel(file, shape, starts, start, limit as usize, header);
-    journey::put(area, w, j);
-    answered(w)
+    let all = queries::cares_for_all(version, asked);
+    let words = answer_words(version);
+    ask(queries::limit_right(query.limit), Refusal::HopLimit)?;
+    ask(tidy & all, Refusal::AskedSet)?;
+    ask(queries::is_edge(edges, query.port), Refusal::StartPort)?;
+    ask(4 * words <= area.len(), Refusal::Room)?;
+    let low = asked.low.value;
+    let high = asked.high.value;
+    let header = WideHeader { low, high };
+    let journey = journey::travel(links, query.port, query.limit as usize, header);
+    journey::put(area, version, journey);
+    Ok(words as u64)
 }

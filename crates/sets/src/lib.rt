@@ -17,13 +17,6 @@ pub struct HeaderSet {
     pub value: [u32; 4],
 }
 
-// A set, or empty where `some` is false.
-#[derive(Clone, Copy)]
-pub struct MaybeSet {
-    pub some: bool,
-    pub set: HeaderSet,
-}
-
 impl HeaderSet {
     // The set of every header.
     pub fn all_wild() -> Self
@@ -39,52 +32,36 @@ impl HeaderSet {
     pub fn is_tidy(self) -> bool
         ensures { result ≡ tidy 4 (set_of self) }
     {
-        let c = self.care;
-        let v = self.value;
-        words::none_set(words::outside(c, v))
+        words::none_set(words::outside(self.care, self.value))
     }
 
     pub fn contains(self, h: [u32; 4]) -> bool
         ensures { result ≡ contains 4 (set_of self) h }
     {
-        let c = self.care;
-        let v = self.value;
-        words::agree(c, h, v)
+        words::agree(self.care, h, self.value)
     }
 
     // The member with every wild bit 0.
     pub fn lowest(self) -> [u32; 4]
         ensures { result ≡ lowest 4 (set_of self) }
     {
-        let c = self.care;
-        let v = self.value;
-        words::both(v, c)
+        words::both(self.value, self.care)
     }
 
     // Do the values agree on every bit that both care for?
     pub fn overlaps(self, b: HeaderSet) -> bool
         ensures { result ≡ overlaps 4 (set_of self) (set_of b) }
     {
-        let c = self.care;
-        let v = self.value;
-        let d = b.care;
-        let w = b.value;
-        words::agree(words::both(c, d), v, w)
+        words::agree(words::both(self.care, b.care), self.value, b.value)
     }
 
-    pub fn intersect(self, b: HeaderSet) -> MaybeSet
+    pub fn intersect(self, b: HeaderSet) -> Option<HeaderSet>
         ensures { result ≡ maybe_of (intersection 4 (set_of self) (set_of b)) }
     {
         if self.overlaps(b) {
-            MaybeSet {
-                some: true,
-                set: self.joined(b),
-            }
+            Some(self.joined(b))
         } else {
-            MaybeSet {
-                some: false,
-                set: HeaderSet::all_wild(),
-            }
+            None
         }
     }
 
@@ -92,13 +69,9 @@ impl HeaderSet {
     fn joined(self, b: HeaderSet) -> HeaderSet
         ensures { result ≡ form_of (joined 4 (set_of self) (set_of b)) }
     {
-        let c = self.care;
-        let v = self.value;
-        let d = b.care;
-        let w = b.value;
         HeaderSet {
-            care: words::either(c, d),
-            value: words::either(v, w),
+            care: words::either(self.care, b.care),
+            value: words::either(self.value, b.value),
         }
     }
 
@@ -106,16 +79,14 @@ impl HeaderSet {
     pub fn widened(self, m: [u32; 4]) -> HeaderSet
         ensures { result ≡ form_of (widened 4 m (set_of self)) }
     {
-        let c = self.care;
-        let v = self.value;
         HeaderSet {
-            care: words::outside(m, c),
-            value: words::outside(m, v),
+            care: words::outside(m, self.care),
+            value: words::outside(m, self.value),
         }
     }
 
     // The headers that a copy takes into this set: what it wants of word 1 joins what it wants of word 0.
-    fn uncopied(self) -> MaybeSet
+    fn uncopied(self) -> Option<HeaderSet>
         ensures { result ≡ maybe_of (uncopied 4 (set_of self)) }
     {
         let c = self.care;
@@ -135,28 +106,20 @@ impl HeaderSet {
     fn unswapped(self) -> HeaderSet
         ensures { result ≡ form_of (moved_set 4 swapped (set_of self)) }
     {
-        let c = self.care;
-        let v = self.value;
         HeaderSet {
-            care: words::swapped(c),
-            value: words::swapped(v),
+            care: words::swapped(self.care),
+            value: words::swapped(self.value),
         }
     }
 
-    // The headers that a transfer takes into this set.
-    pub fn untransferred(self, transfer: Transfer) -> MaybeSet
+    // The headers that a transfer takes into this set: by its variants, which a closure for each would only name again.
+    pub fn untransferred(self, transfer: Transfer) -> Option<HeaderSet>
         ensures { result ≡ maybe_of (untransferred 4 transfer (set_of self)) }
     {
         match transfer {
-            Transfer::Keep => MaybeSet {
-                some: true,
-                set: self,
-            },
+            Transfer::Keep => Some(self),
             Transfer::Copy => self.uncopied(),
-            Transfer::Swap => MaybeSet {
-                some: true,
-                set: self.unswapped(),
-            },
+            Transfer::Swap => Some(self.unswapped()),
         }
     }
 
@@ -164,32 +127,28 @@ impl HeaderSet {
     pub fn free(self, b: HeaderSet) -> [u32; 4]
         ensures { result ≡ free 4 (set_of self) (set_of b) }
     {
-        let c = self.care;
-        let d = b.care;
-        words::outside(c, d)
+        words::outside(self.care, b.care)
     }
 
     // The set with every bit of its value turned round.
     fn turned(self) -> HeaderSet
         ensures { result ≡ form_of (turned 4 (set_of self)) }
     {
+        // the check takes no array field straight into a literal
         let care = self.care;
-        let v = self.value;
-        let value = [!v[0], !v[1], !v[2], !v[3]];
-        HeaderSet { care, value }
+        HeaderSet {
+            care,
+            value: self.value.map(|w| !w),
+        }
     }
 
     // The set with the bits of a mask as in b.
     fn taking(self, m: [u32; 4], b: HeaderSet) -> HeaderSet
         ensures { result ≡ form_of (taking 4 m (set_of b) (set_of self)) }
     {
-        let c = self.care;
-        let v = self.value;
-        let d = b.care;
-        let w = b.value;
         HeaderSet {
-            care: words::overwritten(m, d, c),
-            value: words::overwritten(m, w, v),
+            care: words::overwritten(m, b.care, self.care),
+            value: words::overwritten(m, b.value, self.value),
         }
     }
 

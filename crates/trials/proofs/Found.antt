@@ -1,21 +1,30 @@
--- What the number that trials end with says: the entry that was met, or that there is none, or that the budget is used.
-use mathlib.Core.Bool.{Bool, true, false, cond, ◌&&◌}
+-- What the answer that trials end with says: the entry that was met, or that there is none, or that the budget is used.
+use mathlib.Core.Bool.{Bool, true, false, ◌&&◌}
 use mathlib.Core.List.{List}
 use mathlib.Core.Path.{◌≡◌, refl, sym, ap, ◌∙◌, subst}
 use Prim.Native.Nat.{ℕ, zero, suc, ◌+◌, ◌-◌, ◌≤◌, ◌<◌}
 use native.Mathlib.Decide.{dec_lt}
 use native.Mathlib.Omega.{arith}
-use borrow.Author.Tests.{eqb-true, lt-ltb}
+use borrow.Author.Tests.{eqb-true}
 use lib.Dec.{eqb, leb, ltb}
-use lib.ListN.{get_or}
+use Rattle.std.specs.Prelude.{Option, None, Some, Result, Ok, Err}
 use Rattle.headers.specs.Bits.{positions, keep_if, those}
 use Rattle.headers.specs.Sets.{Set}
 use Rattle.headers.proofs.Booleans.{and_fst}
 use Rattle.forwarding.specs.Fabric.{Fabric, in_port_of, priority_of}
 use Rattle.index.specs.Chains.{no_entry}
+use Rattle.index.specs.Places.{chain_number}
 use Rattle.entries.specs.Entries.{ranked_from}
-use Rattle.trials.specs.Trials.{Ending, met, past, used, number_of, ending_at, Tried, tried, meets, Met, NextMet}
+use Rattle.events.specs.declared.Counters.{Counters}
+use Rattle.events.specs.declared.Halt.{Halt}
+use Rattle.events.specs.declared.Halt.TheVariants.{BudgetUsed}
+use Rattle.trials.specs.Trials.{Ending, met, past, used, number_of, answer_of, ending_at, Tried, tried, meets, Met, NextMet}
 use Rattle.trials.proofs.Next.{trial_refused, trial_met, trial_passed, tried_within, tried_used}
+
+-- an entry of a chain, or its end, has the number of the ending that it stands for
+ending_number : (o : Option ℕ) → number_of (ending_at o) ≡ chain_number o
+ending_number None = refl
+ending_number (Some b) = refl
 
 module _ (f : Fabric) (p : Set) (budget x q : ℕ) where
   -- an entry from j on that the part meets
@@ -76,54 +85,49 @@ module _ (f : Fabric) (p : Set) (budget x q : ℕ) where
           let ends : past ≡ met b = rw none at e in
           let z : ◌≡◌ {A = ℕ} 0 1 = cc in absurd (omega arith)
 
-  -- ---- from the code's number r for the ending, and the counters
+  -- ---- from the code's answer and the counters
 
-  module _ (few : f.entries ≤ no_entry) (j made : ℕ) {counters₀ counters : List ℕ} {r : ℕ}
-      (n : NextMet (trials_at j made) counters₀ r counters) where
-    number_of_lem : (o : Ending) → (trials_at j made).ending ≡ o → r ≡ number_of o
-    number_of_lem o e = n.ending_is ∙ ap number_of e
+  module _ (j made : ℕ) {counters₀ counters : Counters} where
+    module _ {o : Option ℕ} (n : NextMet (trials_at j made) counters₀ (Ok o) counters) where
+      -- the ending that it stands for is the one that was come to
+      pub ending_found : ending_at o ≡ (trials_at j made).ending
+      ending_found = go (trials_at j made).ending n.ending_is
+        where
+          go : (e : Ending) → Ok o ≡ answer_of e → ending_at o ≡ e
+          go (met b) h = let z : o ≡ Some b = cc in ap ending_at z
+          go past h = let z : o ≡ None = cc in ap ending_at z
+          go used h = let z : ◌≡◌ {A = ℕ} 0 1 = cc in absurd (omega arith)
 
-    -- the ending with that number is the one that was come to
-    pub ending_found : ending_at r ≡ (trials_at j made).ending
-    ending_found = go (trials_at j made).ending refl
-      where
-        go : (o : Ending) → (trials_at j made).ending ≡ o → ending_at r ≡ o
-        go (met b) e =
-            let l = (trials_met j made b e).is.is_entry in
-            ap ending_at (number_of_lem (met b) e) ∙ ap (λ (t : Bool). cond t (met b) (cond (eqb b no_entry) past used))
-            (lt-ltb b no_entry (omega arith))
-        go past e = ap ending_at (number_of_lem past e)
-        go used e = ap ending_at (number_of_lem used e)
+      -- an entry is the one that was met
+      pub entry_found : (b : ℕ) → o ≡ Some b → MetFrom j b
+      entry_found b h = trials_met j made b (sym ending_found ∙ ap ending_at h)
 
-    -- a number below that of 'none' is the entry's that was met
-    pub entry_found : r < no_entry → MetFrom j r
-    entry_found l = go (trials_at j made).ending refl
-      where
-        go : (o : Ending) → (trials_at j made).ending ≡ o → MetFrom j r
-        go (met b) e = rw (number_of_lem (met b) e) (trials_met j made b e)
-        go past e = let z = number_of_lem past e in absurd (omega arith)
-        go used e = let z = number_of_lem used e in absurd (omega arith)
+      -- and none before the entry that trials began with
+      pub found_later : j ≤ no_entry → j ≤ chain_number o
+      found_later l = go o refl
+        where
+          go : (m : Option ℕ) → o ≡ m → j ≤ chain_number m
+          go None h = l
+          go (Some b) h = (entry_found b h).low
 
-    -- one above it says that the budget is used
-    pub budget_found_used : no_entry < r → budget ≤ get_or counters 0 0
-    budget_found_used l = rw n.units_are (tried_used (meets f p) budget (ranked_from f x q j) made (go (trials_at j made).ending refl))
-      where
-        go : (o : Ending) → (trials_at j made).ending ≡ o → (trials_at j made).ending ≡ used
-        go (met b) e =
-            let z = number_of_lem (met b) e in
-            let m = (trials_met j made b e).is.is_entry in
-            absurd (omega arith)
-        go past e = let z = number_of_lem past e in absurd (omega arith)
-        go used e = e
+    -- where the trace ends, the budget is used, and all of it is
+    module _ {h : Halt} (n : NextMet (trials_at j made) counters₀ (Err h) counters) where
+      pub ending_used : (trials_at j made).ending ≡ used
+      ending_used = go (trials_at j made).ending n.ending_is
+        where
+          go : (e : Ending) → Err h ≡ answer_of e → e ≡ used
+          go (met b) k = let z : ◌≡◌ {A = ℕ} 0 1 = cc in absurd (omega arith)
+          go past k = let z : ◌≡◌ {A = ℕ} 0 1 = cc in absurd (omega arith)
+          go used k = refl
 
-    -- it is never less than the entry that trials began with
-    pub found_later : j ≤ no_entry → j ≤ r
-    found_later l = go (trials_at j made).ending refl
-      where
-        go : (o : Ending) → (trials_at j made).ending ≡ o → j ≤ r
-        go (met b) e = let z = number_of_lem (met b) e in omega (arith, (trials_met j made b e).low)
-        go past e = let z = number_of_lem past e in omega arith
-        go used e = let z = number_of_lem used e in omega arith
+      pub budget_halts : h ≡ BudgetUsed
+      budget_halts =
+          let k : ◌≡◌ {A = Result (Option ℕ) Halt} (Err h) (Err BudgetUsed) = n.ending_is ∙ ap answer_of ending_used in
+          let z : h ≡ BudgetUsed = cc in z
 
-    pub units_within : made ≤ budget → get_or counters 0 0 ≤ budget
-    units_within l = rw n.units_are (tried_within (meets f p) budget (ranked_from f x q j) made l)
+      pub budget_found_used : budget ≤ counters.made
+      budget_found_used = rw n.units_are (tried_used (meets f p) budget (ranked_from f x q j) made ending_used)
+
+    pub units_within : {r : Result (Option ℕ) Halt} → NextMet (trials_at j made) counters₀ r counters
+        → made ≤ budget → counters.made ≤ budget
+    units_within n l = rw n.units_are (tried_within (meets f p) budget (ranked_from f x q j) made l)

@@ -1,4 +1,3 @@
-pub mod Asks
 pub mod Next
 pub mod Walk
 pub mod Found

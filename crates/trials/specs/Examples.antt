@@ -1,6 +1,7 @@
 -- Trials, computed: entries 4, 9, 2 and 7, of which the part meets 9 and 7.
-use Rattle.std.specs.Prelude.{Bool, List, [], ◌∷◌, ◌≡◌, refl, ℕ, ltb}
-use Rattle.trials.specs.Trials.{met, past, used, number_of, tried, trials_of}
+use Rattle.std.specs.Prelude.{Bool, List, [], ◌∷◌, ◌≡◌, refl, ℕ, ltb, Some, None, Ok, Err}
+use Rattle.events.specs.declared.Halt.TheVariants.{BudgetUsed}
+use Rattle.trials.specs.Trials.{met, past, used, number_of, answer_of, ending_at, tried, trials_of}
 
 abbrev few : List ℕ
 few = 4 ∷ 9 ∷ 2 ∷ 7 ∷ []
@@ -35,6 +36,22 @@ nothing_to_try = refl
 two_trials : trials_of large few ≡ 2
 unfolding trials_of
 two_trials = refl
+
+-- each ending has its own answer, and what the code answers is the ending's
+the_met : answer_of (met 9) ≡ Ok (Some 9)
+the_met = refl
+
+past_is_none : answer_of past ≡ Ok None
+past_is_none = refl
+
+used_is_budget_used : answer_of used ≡ Err BudgetUsed
+used_is_budget_used = refl
+
+some_is_met : ending_at (Some 9) ≡ met 9
+some_is_met = refl
+
+none_is_past : ending_at None ≡ past
+none_is_past = refl
 
 -- no ending has another's number
 past_is_512 : number_of past ≡ 512

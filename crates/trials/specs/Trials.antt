@@ -1,11 +1,15 @@
 -- A part tried against entries one after the other, until it meets one (T16): which of them that is, and the units made on the way. It
 -- knows neither what the part is carved for nor what comes of it.
-use Rattle.std.specs.Prelude.{Bool, true, cond, List, [], ◌∷◌, ◌≡◌, ℕ, suc, ◌+◌, ◌<◌, eqb, ltb, length, get_or}
-use Rattle.std.proofs.Math.Option.{Option, some, none}
+use Rattle.std.specs.Prelude.{Bool, true, cond, List, [], ◌∷◌, ◌≡◌, ℕ, suc, ◌+◌, ◌<◌, ltb}
+use Rattle.std.specs.Prelude.{Option, Some, None, Result, Ok, Err}
+use Rattle.std.proofs.Math.Option as maybe
 use Rattle.headers.specs.Sets.{Set, overlaps}
 use Rattle.forwarding.specs.Fabric.{Fabric, in_port_of}
 use Rattle.index.specs.Chains.{no_entry}
 use Rattle.entries.specs.Entries.{chained}
+use Rattle.events.specs.declared.Counters.{Counters}
+use Rattle.events.specs.declared.Halt.{Halt}
+use Rattle.events.specs.declared.Halt.TheVariants.{BudgetUsed}
 
 -- how trials end: at the entry that the part meets, past the last entry, or where the budget has no unit for the next trial
 pub data Ending : Type 0 where
@@ -13,15 +17,22 @@ pub data Ending : Type 0 where
   past : Ending
   used : Ending
 
--- the number that the code has for each: the entry's own, the one at the end of a chain, and the one after that
+-- the number that each has at the index's chains: the entry's own, the one at the end of a chain, and the one after that
 abbrev pub number_of : Ending → ℕ
 number_of (met b) = b
 number_of past = no_entry
 number_of used = suc no_entry
 
--- and the ending with a number
-abbrev pub ending_at : ℕ → Ending
-ending_at r = cond (ltb r no_entry) (met r) (cond (eqb r no_entry) past used)
+-- what the code answers for each: the entry, that there is none, or why the trace ends
+abbrev pub answer_of : Ending → Result (Option ℕ) Halt
+answer_of (met b) = Ok (Some b)
+answer_of past = Ok None
+answer_of used = Err BudgetUsed
+
+-- and the ending of trials for which the budget has the units
+abbrev pub ending_at : Option ℕ → Ending
+ending_at (Some b) = met b
+ending_at None = past
 
 -- the trials' ending, and the units made by then
 pub record Tried : Type 0 where
@@ -51,12 +62,11 @@ pub record Met (f : Fabric) (x : ℕ) (p : Set) (b : ℕ) : Type 0 where
 abbrev pub trials_from : Fabric → ℕ → ℕ → ℕ → Set → ℕ → Tried
 trials_from f budget q j p made = tried (meets f p) budget (chained f q j) made
 
--- what the code leaves: the ending's number, the units in the first counter, and the second as it was
-pub record NextMet (after : Tried) (counters₀ : List ℕ) (r : ℕ) (counters : List ℕ) : Type 0 where
-  pub ending_is : r ≡ number_of after.ending
-  pub units_are : get_or counters 0 0 ≡ after.made
-  pub words_stay : get_or counters 1 0 ≡ get_or counters₀ 1 0
-  pub counters_long : length counters ≡ 2
+-- what the code leaves: the ending's answer, the units made, and the words as they were
+pub record NextMet (after : Tried) (counters₀ : Counters) (r : Result (Option ℕ) Halt) (counters : Counters) : Type 0 where
+  pub ending_is : r ≡ answer_of after.ending
+  pub units_are : counters.made ≡ after.made
+  pub words_stay : counters.words ≡ counters₀.words
 
 -- ---- what is said of trials
 
@@ -66,6 +76,6 @@ module _ (meets : ℕ → Bool) where
   trials_of [] = 0
   trials_of (b ∷ bs) = suc (cond (meets b) 0 (trials_of bs))
 
-abbrev pub ending_of : Option ℕ → Ending
-ending_of none = past
-ending_of (some b) = met b
+abbrev pub ending_of : maybe.Option ℕ → Ending
+ending_of maybe.none = past
+ending_of (maybe.some b) = met b

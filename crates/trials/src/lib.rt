@@ -2,81 +2,76 @@
 // next beater that a part meets, and the beaters passed over cost a unit and nothing else.
 #![tactic(auto)]
 
-ghost use Rattle.std.specs.Prelude.{◌≡◌, length, get_or};
+ghost use Rattle.std.specs.Prelude.{◌≡◌};
 ghost use Rattle.wide.specs.Forms.{wide_of};
 ghost use Rattle.model.specs.Model.{fabric_in, wide_in};
 ghost use Rattle.index.specs.Index.{Index};
-ghost use Rattle.entries.specs.Entries.{EntriesFrom, OfChain};
-ghost use Rattle.events.specs.Asked.{Asked, budget_of};
+ghost use Rattle.index.specs.Places.{chain_number, IsEntry};
+ghost use Rattle.entries.specs.Entries.{OfChain};
+ghost use Rattle.events.specs.Asked.{Asked, Asked-prop, budget_of};
 ghost use Rattle.trials.specs.Trials.{trials_from, NextMet};
 
-use events::{BASE, WIDTH};
-use index::{CELLS, NO_ENTRY};
-use records::HALF;
+use events::{Ask, Counters, Halt};
+use index::CELLS;
+use layout::Version;
 use wide::WideSet;
 
-// What stands for 'the budget is used', beside the entries and what ends a chain.
-const BUDGET_USED: usize = NO_ENTRY + 1;
+// What a trace goes by: an accepted file, what is asked of it, and its index.
+#[derive(Clone, Copy)]
+pub struct Trace<'a> {
+    pub file: &'a [u8],
+    pub ask: Ask,
+    pub index: &'a [u16; CELLS],
+    pub ghost asked: { Asked file.now ask } by { Asked-prop file.now ask },
+    pub ghost indexed: { Index file.now index.now },
+}
 
-// The trials of `next_met`, where the entries begin at `base` with headers of w words.
+// The trials of `next_met`, in a file of this version.
 fn tried(
-    file: &[u8],
-    ask: &[u32; 7],
-    index: &[u16; CELLS],
-    base: usize,
-    w: usize,
+    trace: &Trace,
+    version: Version,
     least: u32,
-    j: usize,
+    j: Option<usize>,
     p: WideSet,
-    counters: &mut [u64; 2],
-) -> usize
-    requires asked { Asked file.now ask.now }
-    requires entries_from { EntriesFrom file.now base w }
-    requires index { Index file.now index.now }
-    requires of_chain { OfChain (fabric_in file.now).entries j }
-    requires counters_len { length counters.old ≡ 2 }
+    counters: &mut Counters,
+) -> Result<Option<usize>, Halt>
+    requires own_version { version ≡ trace.now.ask.version }
+    requires of_chain { OfChain (fabric_in trace.now.file.now).entries (chain_number j) }
+    requires entry { IsEntry j }
     ensures { NextMet
-        (trials_from (wide_in file.now) (budget_of ask.now) least j (wide_of p) (get_or counters.old 0 0))
+        (trials_from (wide_in trace.now.file.now) (budget_of trace.now.ask) least (chain_number j) (wide_of p) counters.old.made)
         counters.old result counters.new }
 {
-    let mut b = j;
-    while b < NO_ENTRY {
-        if least <= index::rank(index, b) {
-            if !units::unit(ask, counters) {
-                return BUDGET_USED;
-            }
-            if entries::meets(file, base, w, b, p) {
-                return b;
+    let mut next = j;
+    while let Some(b) = next {
+        if least <= index::rank(trace.index, b) {
+            units::unit(&trace.ask, counters)?;
+            if entries::meets(trace.file, trace.ask.base, version, b, p) {
+                return Ok(Some(b));
             }
         }
-        b = index::next_in(index, b);
+        next = index::next_in(trace.index, b);
     }
-    b
+    Ok(None)
 }
 
 // The first entry that p meets, of those at the in-port of entry j, from j on, of this priority or higher; a unit for each one tried.
 pub fn next_met(
-    file: &[u8],
-    ask: &[u32; 7],
-    index: &[u16; CELLS],
+    trace: &Trace,
     least: u32,
-    j: usize,
+    j: Option<usize>,
     p: WideSet,
-    counters: &mut [u64; 2],
-) -> usize
-    requires asked { Asked file.now ask.now }
-    requires index { Index file.now index.now }
-    requires of_chain { OfChain (fabric_in file.now).entries j }
-    requires counters_len { length counters.old ≡ 2 }
+    counters: &mut Counters,
+) -> Result<Option<usize>, Halt>
+    requires of_chain { OfChain (fabric_in trace.now.file.now).entries (chain_number j) }
+    requires entry { IsEntry j }
     ensures { NextMet
-        (trials_from (wide_in file.now) (budget_of ask.now) least j (wide_of p) (get_or counters.old 0 0))
+        (trials_from (wide_in trace.now.file.now) (budget_of trace.now.ask) least (chain_number j) (wide_of p) counters.old.made)
         counters.old result counters.new }
 {
-    let base = units::asked(ask, BASE);
-    let w = units::asked(ask, WIDTH);
-    // a width that the compiler knows is faster
-    if w == HALF {
-        return tried(file, ask, index, base, HALF, least, j, p, counters);
+    // a version that the compiler knows is faster
+    match trace.ask.version {
+        Version::One => tried(trace, Version::One, least, j, p, counters),
+        Version::Two => tried(trace, Version::Two, least, j, p, counters),
     }
-    tried(file, ask, index, base, w, least, j, p, counters)
 }

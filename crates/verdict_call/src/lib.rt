@@ -1,81 +1,58 @@
-// Document 01's verdict on an accepted fabric: questions 8 to 13, and the answer. It returns the number of the first no, or the words of
-// its answer × 256; after a no every lent byte is as it was.
+// Document 01's verdict on an accepted fabric: questions 8 to 13, and the answer. It returns the words of its answer, or the first question
+// that got a no; after a no every lent byte is as it was.
 #![tactic(auto)]
 
-ghost use Rattle.std.specs.Prelude.{◌≡◌, ◌*◌, ◌≤◌, length};
+ghost use Rattle.std.specs.Prelude.{◌≡◌, ◌*◌, ◌≤◌, length, ◌^◌, ◌<◌};
 ghost use Rattle.answer.specs.Answer.{answer_words, outcome, written_at};
-ghost use Rattle.layout.specs.Records.{Width};
-ghost use Rattle.wide.specs.Forms.{wide_of, narrowed, Fits};
-ghost use Rattle.questions.specs.Tables.{EdgeTable};
-ghost use Rattle.questions.specs.declared.Read.TheVariants.{Fabric};
-ghost use Rattle.file.specs.Accepted.{Accepted};
+ghost use Rattle.layout.specs.Versions.{header_words};
+ghost use Rattle.wide.specs.Forms.{wide_of, Fits};
+ghost use Rattle.questions.specs.Refusals.{read_of};
 ghost use Rattle.forwarding.specs.Verdict.{isolated};
-ghost use Rattle.calls.specs.Questions.{query};
+ghost use Rattle.calls.specs.Codes.{code_of, query_of};
 ghost use Rattle.calls.specs.Verdict.{verdict_words, verdict_answer};
 
-use answer::{answer_words, answered};
-use calls::{BUDGET_USED, NO_ROOM};
+use answer::answer_words;
+use events::{Halt, Mode};
+use file::EdgePorts;
 use index::{CELLS, UNUSED};
-use layout::Shape;
-use wide::WideSet;
+use layout::Version;
+use questions::Refusal;
+use wide::Query;
 
 // The words of 'isolated'.
-fn put_isolated(area: &mut [u8], w: usize, units: u32)
-    requires width { Width w }
-    requires w_in_bounds { 4 * answer_words w ≤ length area.old }
-    ensures { area.new ≡ written_at 0 (verdict_words w (isolated units)) area.old }
+fn put_isolated(area: &mut [u8], version: Version, units: u32)
+    requires { 4 * answer_words (header_words version) ≤ length area.old }
+    ensures { area.new ≡ written_at 0 (verdict_words (header_words version) (isolated units)) area.old }
 {
     let mut words = [0u32; 28];
     words[1] = units;
-    let n = answer_words(w);
+    let n = answer_words(version);
     answer::put_words(area, 0, &words[..n]);
 }
 
 // The verdict on an accepted file, after questions 8 to 12.
-pub fn verdict_accepted(
-    file: &[u8],
-    area: &mut [u8],
-    shape: Shape,
-    edge_of: &[u16; 4096],
-    target: u32,
-    limit: u32,
-    budget: u32,
-    asked: WideSet,
-) -> u64
-    requires accepted { Accepted file.now shape }
-    requires edge_table { EdgeTable file.now shape.edges edge_of.now }
-    requires fits { Fits shape.words (wide_of asked) }
-    ensures { outcome result area.new ≡ verdict_answer file.now
-        (query target limit budget (narrowed shape.words (wide_of asked))) (Fabric shape) area.old }
+pub fn verdict_accepted(edges: &EdgePorts, area: &mut [u8], query: Query) -> Result<u64, Refusal>
+    requires { Fits (header_words edges.now.fabric.counts.version) (wide_of query.asked) }
+    ensures answers { outcome (code_of result) area.new ≡ verdict_answer edges.now.fabric.file.now
+        (query_of edges.now.fabric.counts.version query) (read_of (Ok edges.now.fabric.counts)) area.old }
+    ensures few { code_of result < 2 ^ 64 }
 {
-    let no = queries::verdict_no(file, shape, edge_of, target, limit, asked);
-    if no != 0 {
-        return no as u64;
-    }
-    let w = shape.words;
-    if area.len() < 4 * answer_words(w) {
-        return NO_ROOM;
+    let edge = queries::is_edge(edges, query.port);
+    queries::trace_asked(edge, &query)?;
+    let version = edges.fabric.counts.version;
+    let words = answer_words(version);
+    if area.len() < 4 * words {
+        return Err(Refusal::Room);
     }
     let mut index = [UNUSED; CELLS];
-    index::fill(file, shape, &mut index);
-    let p = passes::pass(
-        file,
-        area,
-        shape,
-        edge_of,
-        &index,
-        events::JUDGE,
-        target,
-        limit,
-        budget,
-        asked,
-    );
-    if p.status == 1 {
-        return BUDGET_USED;
+    index::fill(&edges.fabric, &mut index);
+    let passed = passes::pass(edges, &index, Mode::Judge, &query, area);
+    match passed.ended {
+        Ok(()) => {
+            put_isolated(area, version, passed.counters.made as u32);
+            Ok(words as u64)
+        }
+        Err(Halt::Reached) => Ok(words as u64),
+        Err(Halt::BudgetUsed) => Err(Refusal::Budget),
     }
-    if p.status == 2 {
-        return answered(w);
-    }
-    put_isolated(area, w, p.made as u32);
-    answered(w)
 }

@@ -1,6 +1,6 @@
 -- Headers and sets of eight words, and what stands in a file as such (document 02, 2.6), each computed: what holds the definitions of
 -- Forms.antt.
-use Rattle.std.specs.Prelude.{true, false, List, [], ◌∷◌, ◌≡◌, refl, ℕ}
+use Rattle.std.specs.Prelude.{Some, None, List, [], ◌∷◌, ◌≡◌, refl, ℕ}
 use Rattle.std.proofs.Math.Option.{some, none}
 use Rattle.std.proofs.Common.{arith}
 use Rattle.headers.specs.Sets.{Header}
@@ -29,8 +29,7 @@ words_in_order = refl
 set_in_order : wide_of a_set ≡ record { care = eight 1 2 3 4 5 6 7 8; value = eight 9 10 11 12 13 14 15 16 }
 set_in_order = refl
 
-there_or_empty : (maybe_wide_of (record { some = true; set = a_set }) ∷ maybe_wide_of (record { some = false; set = a_set }) ∷ [])
-    ≡ some (wide_of a_set) ∷ none ∷ []
+there_or_empty : (maybe_wide_of (Some a_set) ∷ maybe_wide_of None ∷ []) ≡ some (wide_of a_set) ∷ none ∷ []
 there_or_empty = refl
 
 -- a set of four words as one of eight: the last four are wild; and its first four again

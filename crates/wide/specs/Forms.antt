@@ -1,13 +1,12 @@
 -- The structs of the code as headers and sets of eight words, and the sets that stand in the file as such (document 02, 2.6).
-use Rattle.std.specs.Prelude.{cond, List, ◌++◌, ◌≡◌, ℕ, ◌+◌, ◌-◌, ◌*◌, ◌≤◌, take}
-use Rattle.std.proofs.Math.Option.{Option, some, none}
+use Rattle.std.specs.Prelude.{Option, Some, None, List, ◌++◌, ◌≡◌, ℕ, ◌+◌, ◌-◌, ◌*◌, ◌≤◌, take}
+use Rattle.std.proofs.Math.Option as maybe
 use Rattle.headers.specs.Sets.{Header, Set, Rewrite, beside, padded, padded_rewrite}
 use Rattle.sets.specs.Forms.{set_of}
 use Rattle.layout.specs.Words.{words_in}
 use Rattle.layout.specs.Records.{half, Width, set_words, set_from, rewrite_from}
 use Rattle.wide.specs.declared.WideHeader.{WideHeader}
 use Rattle.wide.specs.declared.WideSet.{WideSet}
-use Rattle.wide.specs.declared.MaybeWide.{MaybeWide}
 
 -- the words of a header in version 2
 abbrev pub wide_words : ℕ
@@ -19,8 +18,9 @@ words_of h = h.low ++ h.high
 abbrev pub wide_of : WideSet → Set
 wide_of s = beside (set_of s.low) (set_of s.high)
 
-abbrev pub maybe_wide_of : MaybeWide → Option Set
-maybe_wide_of m = cond m.some (some (wide_of m.set)) none
+abbrev pub maybe_wide_of : Option WideSet → maybe.Option Set
+maybe_wide_of None = maybe.none
+maybe_wide_of (Some s) = maybe.some (wide_of s)
 
 -- ---- in a file whose headers have w words
 

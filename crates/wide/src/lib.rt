@@ -25,11 +25,14 @@ pub struct WideSet {
     pub high: HeaderSet,
 }
 
-// A set, or empty where `some` is false.
+// A query: the port that is its target or start, a hop limit, a budget, and the asked set. That the set fits a version is asked by the
+// calls, which are told one.
 #[derive(Clone, Copy)]
-pub struct MaybeWide {
-    pub some: bool,
-    pub set: WideSet,
+pub struct Query {
+    pub port: u32,
+    pub limit: u32,
+    pub budget: u32,
+    pub asked: WideSet,
 }
 
 impl WideSet {
@@ -47,11 +50,9 @@ impl WideSet {
     pub fn lowest(self) -> WideHeader
         ensures { words_of result ≡ lowest wide_words (wide_of self) }
     {
-        let p = self.low;
-        let q = self.high;
         WideHeader {
-            low: p.lowest(),
-            high: q.lowest(),
+            low: self.low.lowest(),
+            high: self.high.lowest(),
         }
     }
 }

@@ -1,17 +1,9 @@
--- `put_word` meets its contract: four stores, one after the other, are the word's bytes.
-use lib.ListN.{length-set}
-use native.Mathlib.Omega.{arith}
-use Rattle.answer.proofs.Written.{stored_word}
+-- `put_word` meets its contract: the word's four bytes are copied into their place.
+use mathlib.Core.Path.{◌∙◌}
+use Rattle.answer.specs.Answer.{bytes_of}
+use Rattle.answer.proofs.Written.{copied_word}
 use Rattle.answer.proofs.put_word.Goals as goal
 
-pub bounds-area-i-2 : goal.bounds-area-i-2
-bounds-area-i-2 c = simp length-set (omega arith)
-
-pub bounds-area-i-3 : goal.bounds-area-i-3
-bounds-area-i-3 c = simp length-set (omega arith)
-
-pub bounds-area-i-4 : goal.bounds-area-i-4
-bounds-area-i-4 c = simp length-set (omega arith)
-
 pub returns : goal.returns
-returns c = stored_word c.args.area.now c.args.at c.args.w c.requires
+unfolding bytes_of
+returns c = copied_word c.args.area.now _ c.args.at c.args.w (c.copy_from_slice.ensures.after ∙ c.to_le_bytes.ensures)

@@ -1,14 +1,8 @@
 -- `put_words` meets its contract. The loop's invariant: the words passed are written.
 use mathlib.Core.Path.{◌≡◌}
-use Prim.Native.Nat.{◌-◌, ◌≤◌}
-use lib.ListN.{length, take}
+use lib.ListN.{take}
 use Rattle.answer.specs.Answer.{written_at}
 use Rattle.answer.proofs.put_words.Given as goal
 
 abbrev pub invariant-loop-i : goal.invariant-loop-i
-invariant-loop-i l =
-    (l.i ≤ length l.words) × (length l.area ≡ length l.initial.area)
-    × (l.area ≡ written_at l.at (take l.i l.words) l.initial.area)
-
-abbrev pub decreases-loop-i : goal.decreases-loop-i
-decreases-loop-i l = length l.words - l.i
+invariant-loop-i l = l.area ≡ written_at l.at (take l.i l.words) l.initial.area

@@ -1,409 +1,405 @@
-use mathlib.Core.Bool.{Bool}
-use mathlib.Core.List.{List}
-use mathlib.Core.Path.{◌≡◌, sym, ap, ◌∙◌, subst}
-use Prim.Native.Nat.{ℕ, suc, ◌+◌, ◌-◌, ◌≤◌, ◌<◌}
-use native.Mathlib.Omega.{arith}
-use lib.ListN.{length, get_or, set}
+-- `carve`, `descend`, `stop` and `take_back` meet their contracts: each goal is a law of proofs/, at what the code has in hand.
+use Rattle.std.proofs.Common.{ℕ, suc, ◌+◌, ◌-◌, ◌<◌, List, get_or, take, drop, Option, Some, None, Ok, Err}
+use Rattle.std.proofs.Common.{◌≡◌, ◌∙◌, refl, sym, ap, subst, arith, rules}
+use Rattle.std.proofs.lemmas.List.{take_all}
 use Rattle.headers.specs.Bits.{no_bit}
+use Rattle.headers.specs.Carving.{free}
 use Rattle.headers.specs.Sets.{Set}
-use Rattle.layout.specs.Records.{half, match_at}
-use Rattle.wide.specs.Forms.{wide_words, wide_of, Stored}
+use Rattle.layout.specs.Records.{half}
+use Rattle.layout.specs.Versions.{header_words}
+use Rattle.wide.specs.Forms.{wide_words, wide_of}
 use Rattle.wide.specs.declared.WideSet.{WideSet}
-use Rattle.wide.proofs.Entries.{match_stored}
-use Rattle.carving.specs.Cuts.{free_left}
+use Rattle.stored.specs.Forms.{set_there}
+use Rattle.stored.specs.declared.StoredSet.{StoredSet}
 use Rattle.carving.specs.declared.Cut.{Cut}
 use Rattle.carving.proofs.Arrays.{cut_fours}
 use Rattle.carving.proofs.Cuts.{done_exactly}
 use Rattle.forwarding.specs.Fabric.{in_port_of, outranks}
 use Rattle.model.specs.Model.{fabric_in, wide_in}
-use Rattle.index.specs.Chains.{no_entry}
-use Rattle.index.specs.Index.{first_in, next_in, next_out}
+use Rattle.index.specs.Index.{next_in}
+use Rattle.index.specs.Places.{chain_number}
 use Rattle.index.proofs.Chained.{Next}
-use Rattle.entries.specs.Entries.{IsEntry, OfChain}
+use Rattle.entries.specs.Entries.{OfChain}
 use Rattle.entries.proofs.Entries.{entries_few}
-use Rattle.entries.proofs.InChains.{chain_head, next_in_chain}
+use Rattle.entries.proofs.InChains.{next_in_chain}
 use Rattle.entries.proofs.Backs.{back_empty, back_moved, back_kept}
-use Rattle.events.specs.Asked.{budget_of, words_asked, UnitMade}
+use Rattle.events.specs.Asked.{Path, budget_of}
+use Rattle.events.specs.declared.Ask.{Ask}
+use Rattle.events.specs.declared.Counters.{Counters}
+use Rattle.events.proofs.Ways.{hops_are}
 use Rattle.trials.specs.Trials.{Met, NextMet, trials_from}
+use Rattle.trials.specs.declared.Trace.{Trace}
 use Rattle.backtrace.specs.Cycle.{Tracing, Ended}
-use Rattle.backtrace.proofs.Paths.{kept_same, kept_on}
-use Rattle.backtrace.proofs.Tracings.{entry_as_long, match_there, after_unit, after_push}
-use Rattle.backtrace.proofs.Trying.{part_ended, part_later, after_trials, part_traced}
-use Rattle.backtrace.proofs.Carves.{next_along, AtCut, first_part, parts_done, fewer_parts, part_last, part_through, part_stops}
-use Rattle.backtrace.proofs.Carves.{cares, cut_traced}
-use Rattle.backtrace.proofs.Descents.{place_found, descended_past, descended_used}
-use Rattle.backtrace.proofs.Stops.{at_edge, no_link, no_hop, AtEntry, first_entry, entries_end, kept_under, later_entry}
-use Rattle.backtrace.proofs.Stops.{entry_refused, entry_empty, entry_ended, entry_through}
+use Rattle.backtrace.proofs.Tracings.{InHand, after_unit}
+use Rattle.backtrace.proofs.Trying.{part_ended, part_later, after_trials, part_traced, part_halted}
+use Rattle.backtrace.proofs.Descents.{place_found, descended_past}
+use Rattle.backtrace.proofs.Carves.{next_along, AtCut, match_there, first_part, parts_done, fewer_parts, part_last, part_through}
+use Rattle.backtrace.proofs.Carves.{part_stops, cares, cut_traced}
+use Rattle.backtrace.proofs.Takes.{head_of, with_entry, kept_under, took_back}
+use Rattle.backtrace.proofs.Stops.{at_edge, no_link, no_hop, first_entry, come_to, below_none, at_end, fewer_left}
+use Rattle.backtrace.proofs.Stops.{entries_end, entry_refused, entry_empty, entry_ended, entry_through}
 use Rattle.backtrace.proofs.+carve_descend_stop.Goals as goal
 
--- ---- the bytes of an entry
-
-module _ {f ask index : List ℕ} {d : ℕ} {path counters area : List ℕ} (t : Tracing f ask index d path counters area)
-    {w e : ℕ} {y : List ℕ} (width : w ≡ words_asked ask) (is : IsEntry f e y) where
-  match_in : Stored y match_at w
-  match_in = match_stored (entry_as_long t width is)
-
-  first_words : 8 ≤ length y
-  first_words = omega (arith, (entry_as_long t width is).long)
+-- what a trace has in hand
+in_hand : (t : Trace) {d : ℕ} {path : List ℕ} {counters : Counters} {area : List ℕ} → Tracing t.ask d path counters area
+    → InHand t.file.now t.ask t.index.now d path counters area
+in_hand t x = record { asked = t.asked; indexed = t.indexed; tracing = x }
 
 -- an entry that is the first of its chain from some entry on is one to begin trials with
-of_chain : {f ask index : List ℕ} {d : ℕ} {path counters area : List ℕ} → Tracing f ask index d path counters area
-    → {x j i : ℕ} → Next (in_port_of (fabric_in f)) (fabric_in f).entries x j i → OfChain (fabric_in f).entries i
+of_chain : (t : Trace) → {x j i : ℕ} → Next (in_port_of (fabric_in t.file.now)) (fabric_in t.file.now).entries x j i
+    → OfChain (fabric_in t.file.now).entries i
 of_chain t along = (next_in_chain (entries_few t.asked.fabric) along).of_chain
 
 -- what `descend` asks of a part whose trials ended, beside the measure
-ended_at : {f ask index : List ℕ} {d : ℕ} {path counters area : List ℕ} (t : Tracing f ask index d path counters area)
-    {x : ℕ} (q : ℕ) (p : Set) {j i : ℕ} → Next (in_port_of (fabric_in f)) (fabric_in f).entries x j i
-    → {counters' : List ℕ} {r : ℕ}
-    → NextMet (trials_from (wide_in f) (budget_of ask) q i p (get_or counters 0 0)) counters r counters'
-    → x < 4096 → Tracing f ask index d path counters' area × (x < 4096 × Ended f ask x p counters' r)
-ended_at t q p along n l = (after_trials t _ q p along n, (l, part_ended t _ q p along n))
+ended_at : {f : List ℕ} {ask : Ask} {index : List ℕ} {d : ℕ} {path : List ℕ} {counters : Counters} {area : List ℕ}
+    (t : InHand f ask index d path counters area) {x : ℕ} (q : ℕ) (p : Set) {j i : ℕ}
+    → Next (in_port_of (fabric_in f)) (fabric_in f).entries x j i → {counters' : Counters} {o : Option ℕ}
+    → NextMet (trials_from (wide_in f) (budget_of ask) q i p counters.made) counters (Ok o) counters'
+    → x < 4096 → Tracing ask d path counters' area × (x < 4096 × Ended f x p o)
+ended_at t q p along n l = ((after_trials t _ q p along n).tracing, (l, part_ended t _ q p along n))
 
 -- ---- `carve`
 
 -- the next entry of the chain
-after_entry : {f ask index : List ℕ} {d : ℕ} {path counters area : List ℕ} → Tracing f ask index d path counters area
-    → {x b : ℕ} {p : Set} → Met (wide_in f) x p b → {i : ℕ} → i ≡ get_or index (next_in + b) 0
-    → Next (in_port_of (fabric_in f)) (fabric_in f).entries x (suc b) i
-after_entry t met = next_along t.asked.fabric t.indexed met _
+after_entry : (t : Trace) → {x b : ℕ} {p : Set} → Met (wide_in t.file.now) x p b → (o : Option ℕ)
+    → chain_number o ≡ get_or t.index.now (next_in + b) 0
+    → Next (in_port_of (fabric_in t.file.now)) (fabric_in t.file.now).entries x (suc b) (chain_number o)
+after_entry t met o = next_along t.asked.fabric t.indexed met (chain_number o)
 
 -- bits are free, exactly if the cut has some
-left_exactly : {f ask index : List ℕ} {x q b d : ℕ} {path₀ counters₀ area₀ : List ℕ} {w : ℕ} {y : List ℕ} {c₀ : Cut}
-    {path counters area : List ℕ} {c : Cut} → AtCut f ask index x q b d path₀ counters₀ area₀ w y c₀ path counters area c
-    → w ≡ words_asked ask → IsEntry f b y → no_bit wide_words (free_left w y match_at c) ≡ no_bit half c.free
-left_exactly at width is = sym (done_exactly (match_in at.at_part.tracing width is) at.is_cut at.fours)
+left_exactly : {f : List ℕ} {ask : Ask} {index : List ℕ} {x q b d : ℕ} {path₀ : List ℕ} {counters₀ : Counters} {area₀ : List ℕ}
+    {s : StoredSet} {c₀ : Cut} {path : List ℕ} {counters : Counters} {area : List ℕ} {c : Cut}
+    → AtCut f ask index x q b d path₀ counters₀ area₀ s c₀ path counters area c
+    → no_bit wide_words (free wide_words (wide_of c.set) (set_there s)) ≡ no_bit half c.free
+left_exactly {s = s} at = sym (done_exactly s.stored at.is_cut at.fours)
 
 pub carve-next_in-next-requires : goal.carve-next_in-next-requires
-carve-next_in-next-requires t c = omega (arith, c.requires.met.is_entry, entries_few c.requires.tracing.asked.fabric)
+carve-next_in-next-requires t c = omega (arith, c.requires.met.is_entry, entries_few c.args.trace.now.asked.fabric)
 
-pub carve-first_cut-cut-requires : goal.carve-first_cut-cut-requires
-carve-first_cut-cut-requires t c = match_in c.requires.tracing c.asked-w.ensures c.entry_at-x.ensures
-
-pub carve-loop-x-init : goal.carve-loop-x-init
-carve-loop-x-init t c =
-    let fours = cut_fours c.first_cut-cut.result c.first_cut-cut.type_inv in
+pub carve-loop-matches-init : goal.carve-loop-matches-init
+carve-loop-matches-init t c =
+    let fours = cut_fours c.first-cut.result c.first-cut.type_inv in
     let is_met = subst
-    (λ (s : WideSet). Met (wide_in c.args.file.now) c.args.port (wide_of s) c.args.b)
-    (sym c.first_cut-cut.ensures.set_value) c.requires.met in
+    (λ (s : WideSet). Met (wide_in c.args.trace.now.file.now) c.args.port (wide_of s) c.args.b)
+    (sym c.first-cut.ensures.set_value) c.requires.met in
+    let e = c.entry_at-entry.ensures in
+    let m = c.matches-matches.ensures in
     record {
-      at_part = first_part c.requires.tracing is_met c.args.least
-          (match_there c.requires.tracing c.asked-w.ensures c.entry_at-x.ensures) (cares c.first_cut-cut.result.set fours);
-      is_cut = c.first_cut-cut.ensures.cut;
+      at_part = first_part (in_hand c.args.trace.now c.requires.tracing) is_met c.args.least
+          (match_there c.args.trace.now.asked c.entry_at-entry.result c.matches-matches.result e.entry e.same_version m.bytes m.at
+          m.same_version) (cares c.first-cut.result.set fours);
+      is_cut = c.first-cut.ensures.cut;
       fours = fours;
     }
 
-pub carve-part-part-requires-clause-stored : goal.carve-part-part-requires-clause-stored
-carve-part-part-requires-clause-stored t c = match_in c.requires.tracing c.asked-w.ensures c.entry_at-x.ensures
+pub carve-next_met-requires-clause-of_chain : goal.carve-next_met-requires-clause-of_chain
+carve-next_met-requires-clause-of_chain t c =
+    of_chain c.args.trace.now (after_entry c.args.trace.now c.requires.met c.next_in-next.result c.next_in-next.ensures.value)
 
-pub carve-is_last-requires-clause-stored : goal.carve-is_last-requires-clause-stored
-carve-is_last-requires-clause-stored t c = match_in c.requires.tracing c.asked-w.ensures c.entry_at-x.ensures
-
-pub carve-next_met-k-requires-clause-of_chain : goal.carve-next_met-k-requires-clause-of_chain
-carve-next_met-k-requires-clause-of_chain t c =
-    of_chain c.requires.tracing (after_entry c.requires.tracing c.requires.met c.next_in-next.ensures)
+pub carve-returns-in_err-k-clause-traced : goal.carve-returns-in_err-k-clause-traced
+carve-returns-in_err-k-clause-traced t c =
+    let along = after_entry c.args.trace.now c.requires.met c.next_in-next.result c.next_in-next.ensures.value in
+    let at = c.loop-matches.invariant in
+    let said : c.from_residual.result ≡ Err c.in_err-k.field-0.0 = search rules in
+    rw said (cut_traced _ _ _ _ _ (ap wide_of c.first-cut.ensures.set_value)
+    (part_stops at.at_part (left_exactly at ∙ sym c.is_done.ensures ∙ c.loop-matches-test.true) c.part-part.ensures
+    (part_halted at.at_part.in_hand _ c.args.least (wide_of c.part-part.result) along c.in_err-k.ensures _ _) refl))
 
 pub carve-descend-requires : goal.carve-descend-requires
 carve-descend-requires t c =
-    let along = after_entry c.requires.tracing c.requires.met c.next_in-next.ensures in
-    let few = entries_few c.requires.tracing.asked.fabric in
-    let now_at = c.loop-x.invariant.at_part.tracing in
-    let later = part_later now_at _ c.args.least (wide_of c.part-part.result) along
-    c.next_met-k.ensures (omega (arith, c.requires.met.is_entry)) in (
+    let along = after_entry c.args.trace.now c.requires.met c.next_in-next.result c.next_in-next.ensures.value in
+    let few = entries_few c.args.trace.now.asked.fabric in
+    let hand = c.loop-matches.invariant.at_part.in_hand in
+    let later = part_later hand _ c.args.least (wide_of c.part-part.result) along
+    c.in_ok-k.ensures (omega (arith, c.requires.met.is_entry)) in (
       omega (arith, c.decreases, c.requires.met.is_entry),
-      ended_at now_at c.args.least (wide_of c.part-part.result) along c.next_met-k.ensures c.requires.port_bound,
+      ended_at hand c.args.least (wide_of c.part-part.result) along c.in_ok-k.ensures c.requires.port_bound,
     )
 
 pub carve-returns-then-is_last-clause-traced : goal.carve-returns-then-is_last-clause-traced
 carve-returns-then-is_last-clause-traced t c =
-    let along = after_entry c.requires.tracing c.requires.met c.next_in-next.ensures in
-    let at = c.loop-x.invariant.at_part in
-    cut_traced _ _ _ _ _ (ap wide_of c.first_cut-cut.ensures.set_value)
-    (part_last at
-    (left_exactly c.loop-x.invariant c.asked-w.ensures c.entry_at-x.ensures ∙ sym c.is_done.ensures ∙ c.loop-x-test.true)
-    c.part-part.ensures
-    (part_traced at.tracing _ c.args.least (wide_of c.part-part.result) along c.next_met-k.ensures _ _ c.descend.ensures.traced)
+    let along = after_entry c.args.trace.now c.requires.met c.next_in-next.result c.next_in-next.ensures.value in
+    let at = c.loop-matches.invariant in
+    cut_traced _ _ _ _ _ (ap wide_of c.first-cut.ensures.set_value)
+    (part_last at.at_part (left_exactly at ∙ sym c.is_done.ensures ∙ c.loop-matches-test.true) c.part-part.ensures
+    (part_traced at.at_part.in_hand _ c.args.least (wide_of c.part-part.result) along c.in_ok-k.ensures _ _ c.descend.ensures.traced)
     (sym c.is_last.ensures ∙ c.if-is_last.true))
 
-pub carve-returns-then-is_last-clause-kept : goal.carve-returns-then-is_last-clause-kept
-carve-returns-then-is_last-clause-kept t c = kept_on c.loop-x.invariant.at_part.kept c.descend.ensures.kept
+pub carve-next_met-requires-in-loop-matches-clause-of_chain :
+    goal.carve-next_met-requires-in-loop-matches-clause-of_chain
+carve-next_met-requires-in-loop-matches-clause-of_chain t c =
+    of_chain c.args.trace.now (after_entry c.args.trace.now c.requires.met c.next_in-next.result c.next_in-next.ensures.value)
 
-pub carve-next_cut-cut-requires-clause-stored : goal.carve-next_cut-cut-requires-clause-stored
-carve-next_cut-cut-requires-clause-stored t c = match_in c.requires.tracing c.asked-w.ensures c.entry_at-x.ensures
+pub carve-returns-in_err-k-2-clause-traced : goal.carve-returns-in_err-k-2-clause-traced
+carve-returns-in_err-k-2-clause-traced t c =
+    let along = after_entry c.args.trace.now c.requires.met c.next_in-next.result c.next_in-next.ensures.value in
+    let at = c.loop-matches.invariant in
+    let said : c.from_residual-in_err-k-2.result ≡ Err c.in_err-k-2.field-0.0 = search rules in
+    rw said (cut_traced _ _ _ _ _ (ap wide_of c.first-cut.ensures.set_value)
+    (part_stops at.at_part (left_exactly at ∙ sym c.is_done.ensures ∙ c.loop-matches-test.true) c.part-part.ensures
+    (part_halted at.at_part.in_hand _ c.args.least (wide_of c.part-part.result) along c.in_err-k-2.ensures _ _) refl))
 
-pub carve-next_met-k-requires-in-loop-x-clause-of_chain : goal.carve-next_met-k-requires-in-loop-x-clause-of_chain
-carve-next_met-k-requires-in-loop-x-clause-of_chain t c =
-    of_chain c.requires.tracing (after_entry c.requires.tracing c.requires.met c.next_in-next.ensures)
-
-pub carve-descend-r-requires : goal.carve-descend-r-requires
-carve-descend-r-requires t c =
-    let along = after_entry c.requires.tracing c.requires.met c.next_in-next.ensures in
-    let few = entries_few c.requires.tracing.asked.fabric in
-    let now_at = c.loop-x.invariant.at_part.tracing in
-    let later = part_later now_at _ c.args.least (wide_of c.part-part.result) along
-    c.next_met-k-in-loop-x.ensures (omega (arith, c.requires.met.is_entry)) in (
+pub carve-descend-requires-in-loop-matches : goal.carve-descend-requires-in-loop-matches
+carve-descend-requires-in-loop-matches t c =
+    let along = after_entry c.args.trace.now c.requires.met c.next_in-next.result c.next_in-next.ensures.value in
+    let few = entries_few c.args.trace.now.asked.fabric in
+    let hand = c.loop-matches.invariant.at_part.in_hand in
+    let later = part_later hand _ c.args.least (wide_of c.part-part.result) along
+    c.in_ok-k-2.ensures (omega (arith, c.requires.met.is_entry)) in (
       omega (arith, c.decreases, c.requires.met.is_entry),
-      ended_at now_at c.args.least (wide_of c.part-part.result) along c.next_met-k-in-loop-x.ensures c.requires.port_bound,
+      ended_at hand c.args.least (wide_of c.part-part.result) along c.in_ok-k-2.ensures c.requires.port_bound,
     )
 
-pub carve-returns-then-r-ne0-clause-traced : goal.carve-returns-then-r-ne0-clause-traced
-carve-returns-then-r-ne0-clause-traced t c =
-    let along = after_entry c.requires.tracing c.requires.met c.next_in-next.ensures in
-    let at = c.loop-x.invariant.at_part in
-    cut_traced _ _ _ _ _ (ap wide_of c.first_cut-cut.ensures.set_value)
-    (part_stops at
-    (left_exactly c.loop-x.invariant c.asked-w.ensures c.entry_at-x.ensures ∙ sym c.is_done.ensures ∙ c.loop-x-test.true)
-    c.part-part.ensures
-    (part_traced at.tracing _ c.args.least (wide_of c.part-part.result) along c.next_met-k-in-loop-x.ensures _ _
-    c.descend-r.ensures.traced)
-    c.if-r-ne0.true)
+pub carve-loop-matches-smaller : goal.carve-loop-matches-smaller
+carve-loop-matches-smaller t c =
+    let at = c.loop-matches.invariant in
+    fewer_parts at.at_part (left_exactly at ∙ sym c.is_done.ensures ∙ c.loop-matches-test.true) c.next-cut.ensures.set_value
 
-pub carve-returns-then-r-ne0-clause-kept : goal.carve-returns-then-r-ne0-clause-kept
-carve-returns-then-r-ne0-clause-kept t c = kept_on c.loop-x.invariant.at_part.kept c.descend-r.ensures.kept
-
-pub carve-loop-x-smaller : goal.carve-loop-x-smaller
-carve-loop-x-smaller t c =
-    fewer_parts c.loop-x.invariant.at_part
-    (left_exactly c.loop-x.invariant c.asked-w.ensures c.entry_at-x.ensures ∙ sym c.is_done.ensures ∙ c.loop-x-test.true)
-    c.next_cut-cut.ensures.set_value
-
-pub carve-loop-x-preserved : goal.carve-loop-x-preserved
-carve-loop-x-preserved t c =
-    let along = after_entry c.requires.tracing c.requires.met c.next_in-next.ensures in
-    let at = c.loop-x.invariant.at_part in
+pub carve-loop-matches-preserved : goal.carve-loop-matches-preserved
+carve-loop-matches-preserved t c =
+    let along = after_entry c.args.trace.now c.requires.met c.next_in-next.result c.next_in-next.ensures.value in
+    let at = c.loop-matches.invariant in
     record {
-      at_part = part_through at
-          (left_exactly c.loop-x.invariant c.asked-w.ensures c.entry_at-x.ensures ∙ sym c.is_done.ensures ∙ c.loop-x-test.true)
-          c.part-part.ensures
-          (part_traced at.tracing _ c.args.least (wide_of c.part-part.result) along c.next_met-k-in-loop-x.ensures _ _
-          c.descend-r.ensures.traced)
-          c.if-r-ne0.false c.descend-r.ensures.kept c.descend-r.auto.area c.next_cut-cut.ensures.set_value;
-      is_cut = c.next_cut-cut.ensures.cut_2;
-      fours = cut_fours c.next_cut-cut.result c.next_cut-cut.type_inv;
+      at_part = part_through at.at_part (left_exactly at ∙ sym c.is_done.ensures ∙ c.loop-matches-test.true) c.part-part.ensures
+          (part_traced at.at_part.in_hand _ c.args.least (wide_of c.part-part.result) along c.in_ok-k-2.ensures _ _
+          c.in_ok-descend.ensures.traced)
+          refl c.in_ok-descend.ensures.kept c.descend-in-loop-matches.auto.area c.next-cut.ensures.set_value;
+      is_cut = c.next-cut.ensures.cut_2;
+      fours = cut_fours c.next-cut.result c.next-cut.type_inv;
     }
+
+pub carve-returns-in_err-descend-clause-traced : goal.carve-returns-in_err-descend-clause-traced
+carve-returns-in_err-descend-clause-traced t c =
+    let along = after_entry c.args.trace.now c.requires.met c.next_in-next.result c.next_in-next.ensures.value in
+    let at = c.loop-matches.invariant in
+    let said : c.from_residual-in_err-descend.result ≡ Err c.in_err-descend.field-0.0 = search rules in
+    rw said (cut_traced _ _ _ _ _ (ap wide_of c.first-cut.ensures.set_value)
+    (part_stops at.at_part (left_exactly at ∙ sym c.is_done.ensures ∙ c.loop-matches-test.true) c.part-part.ensures
+    (part_traced at.at_part.in_hand _ c.args.least (wide_of c.part-part.result) along c.in_ok-k-2.ensures _ _
+    c.in_err-descend.ensures.traced) refl))
 
 pub carve-returns-clause-traced : goal.carve-returns-clause-traced
 carve-returns-clause-traced t c =
-    cut_traced _ _ _ _ _ (ap wide_of c.first_cut-cut.ensures.set_value)
-    (parts_done c.loop-x.invariant.at_part
-    (left_exactly c.loop-x.invariant c.asked-w.ensures c.entry_at-x.ensures ∙ sym c.is_done.ensures ∙ c.loop-x-test.false))
+    let at = c.loop-matches.invariant in
+    cut_traced _ _ _ _ _ (ap wide_of c.first-cut.ensures.set_value)
+    (parts_done at.at_part (left_exactly at ∙ sym c.is_done.ensures ∙ c.loop-matches-test.false) _)
 
 -- ---- `descend`
 
-pub descend-stop-requires : goal.descend-stop-requires
-descend-stop-requires t c =
-    let tracing = c.requires.tracing in (
-      omega (arith, c.decreases),
-      (tracing, place_found tracing.asked.fabric tracing.indexed c.requires.port_bound c.place_at-place.ensures),
+pub descend-carve-requires : goal.descend-carve-requires
+descend-carve-requires t c =
+    let at : chain_number c.args.b ≡ c.in-Some.b = ap chain_number c.in-Some.is in (
+      let met = c.requires.ended _ c.in-Some.is in
+          omega (arith, c.decreases, met.is_entry, entries_few c.args.trace.now.asked.fabric),
+      (c.requires.tracing, (c.requires.port_bound, c.requires.ended _ c.in-Some.is)),
     )
 
-pub descend-returns-then-b-eq-NO_ENTRY-clause-traced : goal.descend-returns-then-b-eq-NO_ENTRY-clause-traced
-descend-returns-then-b-eq-NO_ENTRY-clause-traced t c =
-    let tracing = c.requires.tracing in
-    descended_past tracing.asked.fabric tracing.indexed c.requires.port_bound c.place_at-place.ensures _ _ _ _ _
-    c.if-b-eq-NO_ENTRY.true c.stop.ensures.traced
+pub descend-stop-requires : goal.descend-stop-requires
+descend-stop-requires t c =
+    let trace = c.args.trace.now in (
+      omega (arith, c.decreases),
+      (
+        c.requires.tracing,
+        place_found trace.asked.fabric trace.indexed c.requires.port_bound c.place_at-place.result
+            c.place_at-place.ensures.value c.place_at-place.ensures.formed,
+      ),
+    )
 
-pub descend-returns-clause-traced : goal.descend-returns-clause-traced
-descend-returns-clause-traced t c =
-    let above : no_entry < c.args.b = omega (arith, c.if-b-lt-NO_ENTRY.false, c.if-b-eq-NO_ENTRY.false) in
-    descended_used _ _ _ _ _ _ above (c.requires.ended.budget_used above) c.requires.tracing.room.counters_long
+pub descend-returns-in-None-clause-traced : goal.descend-returns-in-None-clause-traced
+descend-returns-in-None-clause-traced t c =
+    let trace = c.args.trace.now in
+    rw c.in-None.is
+    (descended_past trace.asked.fabric trace.indexed c.requires.port_bound c.place_at-place.result c.place_at-place.ensures.value
+    _ _ _ c.stop.ensures.traced)
 
 -- ---- `stop`
 
-module _ {f ask index : List ℕ} {place : ℕ} {s : Set} {d : ℕ} {path₀ counters₀ area₀ : List ℕ} {e : ℕ}
-    {path counters area : List ℕ}
-    (at : AtEntry f ask index place s d path₀ counters₀ area₀ e path counters area) where
-  -- the first entry of the chain of an in-port
-  head_of : {port i : ℕ} → port < 4096 → i ≡ get_or index (first_in + port) 0
-      → Next (in_port_of (fabric_in f)) (fabric_in f).entries port 0 i
-  head_of l h = chain_head (entries_few at.tracing.asked.fabric) at.tracing.indexed.by_in_port _ _ l h
+-- the rest of the path, whole
+way_whole : {path : List ℕ} {d : ℕ} → Path path d → take (16 - d) (drop d path) ≡ drop d path
+way_whole {path} {d} p = take_all (16 - d) (drop d path) (omega (arith, hops_are p))
 
-  -- after the entry's unit, with the entry on the path
-  with_entry : e < no_entry → {made : Bool} {counters₁ : List ℕ} → UnitMade ask counters made counters₁ → {path₁ : List ℕ}
-      → path₁ ≡ set path (d - 1) e → Tracing f ask index (d - 1) path₁ counters₁ area
-  with_entry taken u pushed = after_push (after_unit at.tracing u) at.hop_left taken pushed
+pub stop-returns-in-Nowhere-clause-traced : goal.stop-returns-in-Nowhere-clause-traced
+stop-returns-in-Nowhere-clause-traced t c = rw c.in-Nowhere.is (no_link _ _ _ _ _ _ _ _)
 
-  fewer_left : e < no_entry → {n : ℕ} → n ≡ get_or index (next_out + e) 0 → 512 - n < 512 - e
-  fewer_left taken h = omega (arith, later_entry at taken h)
+pub stop-returns-in-Edge-clause-traced : goal.stop-returns-in-Edge-clause-traced
+stop-returns-in-Edge-clause-traced t c =
+    let whole = way_whole c.requires.tracing.on_path in
+    rw c.in-Edge.is (at_edge c.in-Edge.edge _ _ _ _ whole c.found.ensures _)
 
-pub stop-returns-then-place-ge-FIRST_EDGE-clause-traced : goal.stop-returns-then-place-ge-FIRST_EDGE-clause-traced
-stop-returns-then-place-ge-FIRST_EDGE-clause-traced t c =
-    at_edge _ c.args.d _ c.args.path.now (wide_of c.args.t) _ _ _ c.if-place-ge-FIRST_EDGE.true
-    c.found.ensures.area_after c.found.ensures.counters_len _
+pub stop-returns-then-d-trace-clause-traced : goal.stop-returns-then-d-trace-clause-traced
+stop-returns-then-d-trace-clause-traced t c =
+    let place = rw c.in-Port.is at c.requires.place in
+    rw c.in-Port.is (no_hop _ _ _ _ _ c.args.d c.in-Port.port c.if-d-trace.true place.0 place.1 _ _)
 
-pub stop-returns-then-place-eq0-clause-traced : goal.stop-returns-then-place-eq0-clause-traced
-stop-returns-then-place-eq0-clause-traced t c = no_link c.requires.tracing _ _ c.if-place-eq0.true
+pub stop-loop-next-init : goal.stop-loop-next-init
+stop-loop-next-init t c =
+    let place = rw c.in-Port.is at c.requires.place in
+    first_entry (in_hand c.args.trace.now c.requires.tracing) _ _ _ place.0 place.1 c.if-d-trace.false c.first_out-next.ensures.value
+    c.first_out-next.ensures.entry
 
-pub stop-returns-then-d-asked-clause-traced : goal.stop-returns-then-d-asked-clause-traced
-stop-returns-then-d-asked-clause-traced t c =
-    no_hop c.requires.tracing _ _ _ c.asked.ensures c.if-d-asked.true c.if-place-ge-FIRST_EDGE.false
-
-pub stop-loop-e-init : goal.stop-loop-e-init
-stop-loop-e-init t c =
-    first_entry c.requires.tracing _ _ _ _ c.if-place-ge-FIRST_EDGE.false c.if-place-eq0.false c.asked.ensures
-    c.if-d-asked.false c.first_out-e.ensures
-
-pub stop-returns-then-not-unit-clause-traced : goal.stop-returns-then-not-unit-clause-traced
-stop-returns-then-not-unit-clause-traced t c =
-    entry_refused c.loop-e.invariant c.loop-e-test.true c.unit.ensures c.if-not-unit.true
-
-pub stop-unwritten-u-requires : goal.stop-unwritten-u-requires
-stop-unwritten-u-requires t c = entry_as_long c.loop-e.invariant.tracing c.asked-w.ensures c.entry_at-x.ensures
-
-pub stop-keeps-requires : goal.stop-keeps-requires
-stop-keeps-requires t c = first_words c.loop-e.invariant.tracing c.asked-w.ensures c.entry_at-x.ensures
+pub stop-returns-in_err-unit-clause-traced : goal.stop-returns-in_err-unit-clause-traced
+stop-returns-in_err-unit-clause-traced t c =
+    let x = c.loop-next.invariant in
+    let said : c.from_residual.result ≡ Err c.in_err-unit.field-0.0 = search rules in
+    rw (said, c.in-Port.is) (entry_refused (come_to x c.in-Some.is) (below_none x c.in-Some.is) c.in_err-unit.ensures)
 
 -- an entry that neither copies nor swaps addresses
 
-pub stop-met-m-requires : goal.stop-met-m-requires
-stop-met-m-requires t c = entry_as_long c.loop-e.invariant.tracing c.asked-w.ensures c.entry_at-x.ensures
-
-pub stop-in_port-port-requires : goal.stop-in_port-port-requires
-stop-in_port-port-requires t c = first_words c.loop-e.invariant.tracing c.asked-w.ensures c.entry_at-x.ensures
-
-pub stop-priority-requires : goal.stop-priority-requires
-stop-priority-requires t c = first_words c.loop-e.invariant.tracing c.asked-w.ensures c.entry_at-x.ensures
-
-pub stop-next_met-b-requires-clause-of_chain : goal.stop-next_met-b-requires-clause-of_chain
-stop-next_met-b-requires-clause-of_chain t c =
-    of_chain c.requires.tracing (head_of c.loop-e.invariant (omega (arith, c.in_port-port.ensures)) c.first_in-first.ensures)
-
-pub stop-descend-r-requires : goal.stop-descend-r-requires
-stop-descend-r-requires t c =
-    let at = c.loop-e.invariant in
-    let tracing = with_entry at c.loop-e-test.true c.unit.ensures c.push.ensures in
-    let along = head_of at (omega (arith, c.in_port-port.ensures)) c.first_in-first.ensures in (
+pub stop-take_back-requires : goal.stop-take_back-requires
+stop-take_back-requires t c =
+    let at = c.loop-next.invariant.at in (
       omega (arith, c.decreases, at.hop_left),
-      ended_at tracing c.least_above-least.result (wide_of c.met-m.result.set) along c.next_met-b.ensures
-          (omega (arith, c.in_port-port.ensures)),
+      ((after_unit at.in_hand c.in_ok-unit.ensures).tracing, (at.hop_left, c.entry_at-entry.ensures.entry)),
     )
 
-pub stop-returns-then-r-ne0-clause-traced : goal.stop-returns-then-r-ne0-clause-traced
-stop-returns-then-r-ne0-clause-traced t c =
-    let at = c.loop-e.invariant in
-    let tracing = with_entry at c.loop-e-test.true c.unit.ensures c.push.ensures in
-    let along = head_of at (omega (arith, c.in_port-port.ensures)) c.first_in-first.ensures in
-    entry_ended at c.loop-e-test.true c.unit.ensures c.if-not-unit.false c.entry_at-x.ensures c.asked-w.ensures c.met-m.result
-    (back_kept c.asked-w.result c.entry_at-x.result.now (wide_of c.args.t) c.unwritten-u.result c.unwritten-u.ensures c.if-u.true
-    c.keeps.ensures c.if-keeps.true c.met-m.result c.met-m.ensures)
-    c.if-m.true c.push.ensures _ c.in_port-port.ensures
-    (λ p. c.least_above-least.ensures p ∙ ap (outranks p) c.priority.ensures)
-    (part_traced tracing _ c.least_above-least.result (wide_of c.met-m.result.set) along c.next_met-b.ensures _ _
-    c.descend-r.ensures.traced) c.if-r-ne0.true
+pub stop-loop-next-smaller-in-Continue-branch-2 : goal.stop-loop-next-smaller-in-Continue-branch-2
+stop-loop-next-smaller-in-Continue-branch-2 t c =
+    fewer_left c.loop-next.invariant c.in-Some.is c.next_out-next.result c.next_out-next.ensures.value
 
-pub stop-returns-then-r-ne0-clause-kept : goal.stop-returns-then-r-ne0-clause-kept
-stop-returns-then-r-ne0-clause-kept t c =
-    kept_on c.loop-e.invariant.kept (kept_under c.loop-e.invariant c.push.ensures c.descend-r.ensures.kept)
+pub stop-loop-next-preserved-in-Continue-branch-2 : goal.stop-loop-next-preserved-in-Continue-branch-2
+stop-loop-next-preserved-in-Continue-branch-2 t c =
+    let x = c.loop-next.invariant in
+    let entry = c.entry_at-entry in
+    let back = back_kept (header_words entry.result.version) entry.result.bytes.now (wide_of c.args.t) c.in-Some-unwritten.s
+    c.in-Some-unwritten.ensures (search rules) (Some c.in-Some-met.p) c.in-Some-met.ensures in
+    entry_through (come_to x c.in-Some.is) (below_none x c.in-Some.is) c.in_ok-unit.ensures entry.ensures.entry
+    entry.ensures.same_version back refl c.in_ok-take_back.ensures.traced refl c.next_out-next.ensures.value
+    c.next_out-next.ensures.entry c.in_ok-take_back.ensures.kept c.take_back.auto.area
 
-pub stop-loop-e-smaller-else-r-ne0 : goal.stop-loop-e-smaller-else-r-ne0
-stop-loop-e-smaller-else-r-ne0 t c = fewer_left c.loop-e.invariant c.loop-e-test.true c.next_out-next.ensures
+pub stop-returns-in_err-take_back-clause-traced : goal.stop-returns-in_err-take_back-clause-traced
+stop-returns-in_err-take_back-clause-traced t c =
+    let x = c.loop-next.invariant in
+    let entry = c.entry_at-entry in
+    let back = back_kept (header_words entry.result.version) entry.result.bytes.now (wide_of c.args.t) c.in-Some-unwritten.s
+    c.in-Some-unwritten.ensures (search rules) (Some c.in-Some-met.p) c.in-Some-met.ensures in
+    let said : c.from_residual-in_err-take_back.result ≡ Err c.in_err-take_back.field-0.0 = search rules in
+    rw (said, c.in-Port.is) (entry_ended (come_to x c.in-Some.is) (below_none x c.in-Some.is) c.in_ok-unit.ensures entry.ensures.entry
+    entry.ensures.same_version back refl c.in_err-take_back.ensures.traced refl)
 
-pub stop-loop-e-preserved-else-r-ne0 : goal.stop-loop-e-preserved-else-r-ne0
-stop-loop-e-preserved-else-r-ne0 t c =
-    let at = c.loop-e.invariant in
-    let tracing = with_entry at c.loop-e-test.true c.unit.ensures c.push.ensures in
-    let along = head_of at (omega (arith, c.in_port-port.ensures)) c.first_in-first.ensures in
-    entry_through at c.loop-e-test.true c.unit.ensures c.if-not-unit.false c.entry_at-x.ensures c.asked-w.ensures c.met-m.result
-    (back_kept c.asked-w.result c.entry_at-x.result.now (wide_of c.args.t) c.unwritten-u.result c.unwritten-u.ensures c.if-u.true
-    c.keeps.ensures c.if-keeps.true c.met-m.result c.met-m.ensures)
-    c.if-m.true c.push.ensures _ c.in_port-port.ensures
-    (λ p. c.least_above-least.ensures p ∙ ap (outranks p) c.priority.ensures)
-    (part_traced tracing _ c.least_above-least.result (wide_of c.met-m.result.set) along c.next_met-b.ensures _ _
-    c.descend-r.ensures.traced) c.if-r-ne0.false c.next_out-next.ensures c.descend-r.ensures.kept c.descend-r.auto.area
+pub stop-loop-next-smaller-in_default-met : goal.stop-loop-next-smaller-in_default-met
+stop-loop-next-smaller-in_default-met t c =
+    fewer_left c.loop-next.invariant c.in-Some.is c.next_out-next.result c.next_out-next.ensures.value
 
-pub stop-loop-e-smaller-else-m : goal.stop-loop-e-smaller-else-m
-stop-loop-e-smaller-else-m t c = fewer_left c.loop-e.invariant c.loop-e-test.true c.next_out-next.ensures
-
-pub stop-loop-e-preserved-else-m : goal.stop-loop-e-preserved-else-m
-stop-loop-e-preserved-else-m t c =
-    entry_empty c.loop-e.invariant c.loop-e-test.true c.unit.ensures (cc) c.entry_at-x.ensures c.asked-w.ensures
-    c.met-m.result
-    (back_kept c.asked-w.result c.entry_at-x.result.now (wide_of c.args.t) c.unwritten-u.result c.unwritten-u.ensures c.if-u.true
-    c.keeps.ensures (cc) c.met-m.result c.met-m.ensures)
-    c.if-m.false c.next_out-next.ensures (kept_same _ c.loop-e.invariant.tracing.on_path.long)
+pub stop-loop-next-preserved-in_default-met : goal.stop-loop-next-preserved-in_default-met
+stop-loop-next-preserved-in_default-met t c =
+    let x = c.loop-next.invariant in
+    let entry = c.entry_at-entry in
+    let back = back_kept (header_words entry.result.version) entry.result.bytes.now (wide_of c.args.t) c.in-Some-unwritten.s
+    c.in-Some-unwritten.ensures (search rules) None c.in_default-met.ensures in
+    entry_empty (come_to x c.in-Some.is) (below_none x c.in-Some.is) c.in_ok-unit.ensures entry.ensures.entry
+    entry.ensures.same_version back refl c.next_out-next.ensures.value c.next_out-next.ensures.entry
 
 -- an entry that copies or swaps them
 
-pub stop-met_before-m-requires : goal.stop-met_before-m-requires
-stop-met_before-m-requires t c = entry_as_long c.loop-e.invariant.tracing c.asked-w.ensures c.entry_at-x.ensures
-
-pub stop-in_port-port-requires-then-m-2 : goal.stop-in_port-port-requires-then-m-2
-stop-in_port-port-requires-then-m-2 t c = first_words c.loop-e.invariant.tracing c.asked-w.ensures c.entry_at-x.ensures
-
-pub stop-priority-requires-then-m-2 : goal.stop-priority-requires-then-m-2
-stop-priority-requires-then-m-2 t c = first_words c.loop-e.invariant.tracing c.asked-w.ensures c.entry_at-x.ensures
-
-pub stop-next_met-b-requires-then-m-2-clause-of_chain : goal.stop-next_met-b-requires-then-m-2-clause-of_chain
-stop-next_met-b-requires-then-m-2-clause-of_chain t c =
-    of_chain c.requires.tracing
-    (head_of c.loop-e.invariant (omega (arith, c.in_port-port-then-m-2.ensures)) c.first_in-first-then-m-2.ensures)
-
-pub stop-descend-r-requires-then-m-2 : goal.stop-descend-r-requires-then-m-2
-stop-descend-r-requires-then-m-2 t c =
-    let at = c.loop-e.invariant in
-    let tracing = with_entry at c.loop-e-test.true c.unit.ensures c.push-then-m-2.ensures in
-    let along = head_of at (omega (arith, c.in_port-port-then-m-2.ensures)) c.first_in-first-then-m-2.ensures in (
+pub stop-take_back-requires-in-Some-met_before : goal.stop-take_back-requires-in-Some-met_before
+stop-take_back-requires-in-Some-met_before t c =
+    let at = c.loop-next.invariant.at in (
       omega (arith, c.decreases, at.hop_left),
-      ended_at tracing c.least_above-least-then-m-2.result (wide_of c.met_before-m.result.set) along c.next_met-b-then-m-2.ensures
-          (omega (arith, c.in_port-port-then-m-2.ensures)),
+      ((after_unit at.in_hand c.in_ok-unit.ensures).tracing, (at.hop_left, c.entry_at-entry.ensures.entry)),
     )
 
-pub stop-returns-then-r-ne0-2-clause-traced : goal.stop-returns-then-r-ne0-2-clause-traced
-stop-returns-then-r-ne0-2-clause-traced t c =
-    let at = c.loop-e.invariant in
-    let tracing = with_entry at c.loop-e-test.true c.unit.ensures c.push-then-m-2.ensures in
-    let along = head_of at (omega (arith, c.in_port-port-then-m-2.ensures)) c.first_in-first-then-m-2.ensures in
-    entry_ended at c.loop-e-test.true c.unit.ensures c.if-not-unit.false c.entry_at-x.ensures c.asked-w.ensures c.met_before-m.result
-    (back_moved c.asked-w.result c.entry_at-x.result.now (wide_of c.args.t) c.unwritten-u.result c.unwritten-u.ensures c.if-u.true
-    c.met_before-m.result c.met_before-m.ensures)
-    c.if-m-2.true c.push-then-m-2.ensures _ c.in_port-port-then-m-2.ensures
-    (λ p. c.least_above-least-then-m-2.ensures p ∙ ap (outranks p) c.priority-then-m-2.ensures)
-    (part_traced tracing _ c.least_above-least-then-m-2.result (wide_of c.met_before-m.result.set) along
-    c.next_met-b-then-m-2.ensures _ _ c.descend-r-then-m-2.ensures.traced) c.if-r-ne0-2.true
+pub stop-loop-next-smaller-in-Continue-branch-3 : goal.stop-loop-next-smaller-in-Continue-branch-3
+stop-loop-next-smaller-in-Continue-branch-3 t c =
+    fewer_left c.loop-next.invariant c.in-Some.is c.next_out-next.result c.next_out-next.ensures.value
 
-pub stop-returns-then-r-ne0-2-clause-kept : goal.stop-returns-then-r-ne0-2-clause-kept
-stop-returns-then-r-ne0-2-clause-kept t c =
-    kept_on c.loop-e.invariant.kept (kept_under c.loop-e.invariant c.push-then-m-2.ensures c.descend-r-then-m-2.ensures.kept)
+pub stop-loop-next-preserved-in-Continue-branch-3 : goal.stop-loop-next-preserved-in-Continue-branch-3
+stop-loop-next-preserved-in-Continue-branch-3 t c =
+    let x = c.loop-next.invariant in
+    let entry = c.entry_at-entry in
+    let back = back_moved (header_words entry.result.version) entry.result.bytes.now (wide_of c.args.t) c.in-Some-unwritten.s
+    c.in-Some-unwritten.ensures (Some c.in-Some-met_before.p) c.in-Some-met_before.ensures in
+    entry_through (come_to x c.in-Some.is) (below_none x c.in-Some.is) c.in_ok-unit.ensures entry.ensures.entry
+    entry.ensures.same_version back refl c.in_ok-take_back-2.ensures.traced refl c.next_out-next.ensures.value
+    c.next_out-next.ensures.entry c.in_ok-take_back-2.ensures.kept c.take_back-in-Some-met_before.auto.area
 
-pub stop-loop-e-smaller-else-r-ne0-2 : goal.stop-loop-e-smaller-else-r-ne0-2
-stop-loop-e-smaller-else-r-ne0-2 t c = fewer_left c.loop-e.invariant c.loop-e-test.true c.next_out-next.ensures
+pub stop-returns-in_err-take_back-2-clause-traced : goal.stop-returns-in_err-take_back-2-clause-traced
+stop-returns-in_err-take_back-2-clause-traced t c =
+    let x = c.loop-next.invariant in
+    let entry = c.entry_at-entry in
+    let back = back_moved (header_words entry.result.version) entry.result.bytes.now (wide_of c.args.t) c.in-Some-unwritten.s
+    c.in-Some-unwritten.ensures (Some c.in-Some-met_before.p) c.in-Some-met_before.ensures in
+    let said : c.from_residual-in_err-take_back-2.result ≡ Err c.in_err-take_back-2.field-0.0 = search rules in
+    rw (said, c.in-Port.is) (entry_ended (come_to x c.in-Some.is) (below_none x c.in-Some.is) c.in_ok-unit.ensures entry.ensures.entry
+    entry.ensures.same_version back refl c.in_err-take_back-2.ensures.traced refl)
 
-pub stop-loop-e-preserved-else-r-ne0-2 : goal.stop-loop-e-preserved-else-r-ne0-2
-stop-loop-e-preserved-else-r-ne0-2 t c =
-    let at = c.loop-e.invariant in
-    let tracing = with_entry at c.loop-e-test.true c.unit.ensures c.push-then-m-2.ensures in
-    let along = head_of at (omega (arith, c.in_port-port-then-m-2.ensures)) c.first_in-first-then-m-2.ensures in
-    entry_through at c.loop-e-test.true c.unit.ensures c.if-not-unit.false c.entry_at-x.ensures c.asked-w.ensures
-    c.met_before-m.result
-    (back_moved c.asked-w.result c.entry_at-x.result.now (wide_of c.args.t) c.unwritten-u.result c.unwritten-u.ensures c.if-u.true
-    c.met_before-m.result c.met_before-m.ensures)
-    c.if-m-2.true c.push-then-m-2.ensures _ c.in_port-port-then-m-2.ensures
-    (λ p. c.least_above-least-then-m-2.ensures p ∙ ap (outranks p) c.priority-then-m-2.ensures)
-    (part_traced tracing _ c.least_above-least-then-m-2.result (wide_of c.met_before-m.result.set) along
-    c.next_met-b-then-m-2.ensures _ _ c.descend-r-then-m-2.ensures.traced) c.if-r-ne0-2.false c.next_out-next.ensures
-    c.descend-r-then-m-2.ensures.kept c.descend-r-then-m-2.auto.area
+pub stop-loop-next-smaller-in_default-met_before : goal.stop-loop-next-smaller-in_default-met_before
+stop-loop-next-smaller-in_default-met_before t c =
+    fewer_left c.loop-next.invariant c.in-Some.is c.next_out-next.result c.next_out-next.ensures.value
 
-pub stop-loop-e-smaller-else-m-2 : goal.stop-loop-e-smaller-else-m-2
-stop-loop-e-smaller-else-m-2 t c = fewer_left c.loop-e.invariant c.loop-e-test.true c.next_out-next.ensures
-
-pub stop-loop-e-preserved-else-m-2 : goal.stop-loop-e-preserved-else-m-2
-stop-loop-e-preserved-else-m-2 t c =
-    entry_empty c.loop-e.invariant c.loop-e-test.true c.unit.ensures c.if-not-unit.false c.entry_at-x.ensures c.asked-w.ensures
-    c.met_before-m.result
-    (back_moved c.asked-w.result c.entry_at-x.result.now (wide_of c.args.t) c.unwritten-u.result c.unwritten-u.ensures c.if-u.true
-    c.met_before-m.result c.met_before-m.ensures)
-    c.if-m-2.false c.next_out-next.ensures (kept_same _ c.loop-e.invariant.tracing.on_path.long)
+pub stop-loop-next-preserved-in_default-met_before : goal.stop-loop-next-preserved-in_default-met_before
+stop-loop-next-preserved-in_default-met_before t c =
+    let x = c.loop-next.invariant in
+    let entry = c.entry_at-entry in
+    let back = back_moved (header_words entry.result.version) entry.result.bytes.now (wide_of c.args.t) c.in-Some-unwritten.s
+    c.in-Some-unwritten.ensures None c.in_default-met_before.ensures in
+    entry_empty (come_to x c.in-Some.is) (below_none x c.in-Some.is) c.in_ok-unit.ensures entry.ensures.entry
+    entry.ensures.same_version back refl c.next_out-next.ensures.value c.next_out-next.ensures.entry
 
 -- an entry whose rewrite makes nothing into headers of the set, and the end of the chain
 
-pub stop-loop-e-smaller : goal.stop-loop-e-smaller
-stop-loop-e-smaller t c = fewer_left c.loop-e.invariant c.loop-e-test.true c.next_out-next.ensures
+pub stop-loop-next-smaller : goal.stop-loop-next-smaller
+stop-loop-next-smaller t c =
+    fewer_left c.loop-next.invariant c.in-Some.is c.next_out-next.result c.next_out-next.ensures.value
 
-pub stop-loop-e-preserved : goal.stop-loop-e-preserved
-stop-loop-e-preserved t c =
-    entry_empty c.loop-e.invariant c.loop-e-test.true c.unit.ensures c.if-not-unit.false c.entry_at-x.ensures c.asked-w.ensures
-    c.unwritten-u.result
-    (back_empty c.asked-w.result c.entry_at-x.result.now (wide_of c.args.t) c.unwritten-u.result c.unwritten-u.ensures c.if-u.false)
-    c.if-u.false c.next_out-next.ensures (kept_same _ c.loop-e.invariant.tracing.on_path.long)
+pub stop-loop-next-preserved : goal.stop-loop-next-preserved
+stop-loop-next-preserved t c =
+    let x = c.loop-next.invariant in
+    let entry = c.entry_at-entry in
+    let back = back_empty (header_words entry.result.version) entry.result.bytes.now (wide_of c.args.t)
+    c.in_default-unwritten.ensures in
+    entry_empty (come_to x c.in-Some.is) (below_none x c.in-Some.is) c.in_ok-unit.ensures entry.ensures.entry
+    entry.ensures.same_version back refl c.next_out-next.ensures.value c.next_out-next.ensures.entry
 
 pub stop-returns-clause-traced : goal.stop-returns-clause-traced
-stop-returns-clause-traced t c = entries_end c.loop-e.invariant (omega arith)
+stop-returns-clause-traced t c = rw c.in-Port.is (entries_end (at_end c.loop-next.invariant c.in_default.is) (omega arith) _)
+
+-- ---- `take_back`
+
+pub take_back-push-requires : goal.take_back-push-requires
+take_back-push-requires t c = (
+  omega (arith, c.requires.tracing.on_path.within, c.requires.hop_left),
+  omega (arith, c.requires.is_entry.within, entries_few c.args.trace.now.asked.fabric),
+)
+
+pub take_back-next_met-requires-clause-of_chain : goal.take_back-next_met-requires-clause-of_chain
+take_back-next_met-requires-clause-of_chain t c =
+    let hand = in_hand c.args.trace.now c.requires.tracing in
+    of_chain c.args.trace.now
+    (head_of hand c.requires.hop_left c.requires.is_entry (omega (arith, c.in_port-port.ensures)) c.first_in-first.ensures.value)
+
+pub take_back-returns-in_err-b-clause-traced : goal.take_back-returns-in_err-b-clause-traced
+take_back-returns-in_err-b-clause-traced t c =
+    let hand = in_hand c.args.trace.now c.requires.tracing in
+    let i = c.requires.is_entry in
+    let hop = c.requires.hop_left in
+    let along = head_of hand hop i (omega (arith, c.in_port-port.ensures)) c.first_in-first.ensures.value in
+    let said : c.from_residual.result ≡ Err c.in_err-b.field-0.0 = search rules in
+    rw said (took_back hand hop i c.push.ensures c.in_port-port.ensures _
+    (λ p. c.least_above-least.ensures p ∙ ap (outranks p) c.priority.ensures) _ _
+    (part_halted (with_entry hand hop i c.push.ensures) _ c.least_above-least.result (wide_of c.args.p) along c.in_err-b.ensures _ _))
+
+pub take_back-descend-requires : goal.take_back-descend-requires
+take_back-descend-requires t c =
+    let hand = in_hand c.args.trace.now c.requires.tracing in
+    let i = c.requires.is_entry in
+    let hop = c.requires.hop_left in
+    let along = head_of hand hop i (omega (arith, c.in_port-port.ensures)) c.first_in-first.ensures.value in (
+      omega (arith, c.decreases, hop),
+      ended_at (with_entry hand hop i c.push.ensures) c.least_above-least.result (wide_of c.args.p) along c.in_ok-b.ensures
+          (omega (arith, c.in_port-port.ensures)),
+    )
+
+pub take_back-returns-clause-traced : goal.take_back-returns-clause-traced
+take_back-returns-clause-traced t c =
+    let hand = in_hand c.args.trace.now c.requires.tracing in
+    let i = c.requires.is_entry in
+    let hop = c.requires.hop_left in
+    let along = head_of hand hop i (omega (arith, c.in_port-port.ensures)) c.first_in-first.ensures.value in
+    took_back hand hop i c.push.ensures c.in_port-port.ensures _
+    (λ p. c.least_above-least.ensures p ∙ ap (outranks p) c.priority.ensures) _ _
+    (part_traced (with_entry hand hop i c.push.ensures) _ c.least_above-least.result (wide_of c.args.p) along c.in_ok-b.ensures _ _
+    c.descend.ensures.traced)
+
+pub take_back-returns-clause-kept : goal.take_back-returns-clause-kept
+take_back-returns-clause-kept t c =
+    kept_under (in_hand c.args.trace.now c.requires.tracing) c.requires.hop_left c.requires.is_entry c.push.ensures c.descend.ensures.kept

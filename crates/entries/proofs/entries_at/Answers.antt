@@ -5,7 +5,8 @@ use Prim.Native.Nat.{ℕ, ◌*◌, ◌≤◌}
 use native.Mathlib.Omega.{arith}
 use Rattle.layout.specs.Records.{width_in, place_of}
 use Rattle.layout.specs.Limits.{most_words}
-use Rattle.layout.specs.declared.Shape.{Shape}
+use Rattle.layout.specs.Shape.{Shape}
+use Rattle.layout.specs.Versions.{shape_counted}
 use Rattle.layout.proofs.Widths.{by_width, width_said}
 use Rattle.file.specs.Accepted.{Accepted}
 use Rattle.file.proofs.Accepted.{words_said, few_edges, few_links}
@@ -21,23 +22,25 @@ within-file f s ok =
     s.words (width_said f (words_said f s ok))
 
 pub place-requires : goal.place-requires
-place-requires c = record { width = width_said _ (words_said _ _ c.requires); n_bound = within-file _ _ c.requires }
+place-requires c = within-file _ _ c.args.fabric.now.accepted
 
 pub overflow_mul-result : goal.overflow_mul-result
 overflow_mul-result c =
-    let small : c.place.result ≤ most_words = subst (λ (n : ℕ). n ≤ most_words) (sym c.place.ensures) (within-file _ _ c.requires) in
+    let inside = within-file _ _ c.args.fabric.now.accepted in
+    let small : c.place.result ≤ most_words = subst (λ (n : ℕ). n ≤ most_words) (sym c.place.ensures) inside in
     omega (arith, small)
 
 pub overflow_cast-result : goal.overflow_cast-result
 overflow_cast-result c =
-    let small : c.place.result ≤ most_words = subst (λ (n : ℕ). n ≤ most_words) (sym c.place.ensures) (within-file _ _ c.requires) in
+    let inside = within-file _ _ c.args.fabric.now.accepted in
+    let small : c.place.result ≤ most_words = subst (λ (n : ℕ). n ≤ most_words) (sym c.place.ensures) inside in
     omega (arith, small)
 
 pub returns : goal.returns
 unfolding entries_at
 returns c =
-    let shape = c.args.shape in
+    let fabric = c.args.fabric.now in
+    let s = shape_counted fabric.counts in
     ap (λ (n : ℕ). 4 * n) c.place.ensures
-    ∙ ap (λ (w : ℕ). 4 * place_of w shape.edges shape.links 0) (words_said _ _ c.requires)
-    ∙ ap (λ (t : Shape). 4 * place_of (width_in c.args.file.now) t.edges t.links 0)
-    (sym (shape_is c.args.file.now shape c.requires))
+    ∙ ap (λ (w : ℕ). 4 * place_of w s.edges s.links 0) (words_said _ _ fabric.accepted)
+    ∙ ap (λ (t : Shape). 4 * place_of (width_in fabric.file.now) t.edges t.links 0) (sym (shape_is fabric.file.now s fabric.accepted))

@@ -1,11 +1,11 @@
 -- `entry_at` meets its contract: an accepted file has all of its entries' bytes.
 use mathlib.Core.List.{List}
-use mathlib.Core.Path.{◌≡◌, ap, ◌∙◌}
+use mathlib.Core.Path.{◌≡◌, refl, ap, ◌∙◌}
 use Prim.Native.Nat.{ℕ, ◌+◌, ◌*◌, ◌≤◌, ◌<◌}
 use native.Mathlib.Omega.{arith}
 use lib.ListN.{length}
 use Rattle.layout.specs.Records.{width_in, entry_words}
-use Rattle.layout.proofs.Widths.{width_is, width_said}
+use Rattle.layout.proofs.Widths.{width_is}
 use Rattle.model.specs.Model.{fabric_in}
 use Rattle.entries.specs.Entries.{EntriesFrom}
 use Rattle.entries.proofs.Entries.{entry_room, entry_part}
@@ -18,9 +18,6 @@ module _ (f : List ℕ) (base w n : ℕ) (from : EntriesFrom f base w) (is : n �
 
   room : (e : ℕ) → e < (fabric_in f).entries → base + e * (4 * n) + 4 * n ≤ length f
   room e l = omega (arith, from.base_is, entry_room from.fabric l _ size_is)
-
-pub entry_words-size-requires : goal.entry_words-size-requires
-entry_words-size-requires c = width_said c.args.file.now c.requires.entries_from.width_is
 
 pub overflow_mul-size : goal.overflow_mul-size
 overflow_mul-size c =
@@ -41,5 +38,9 @@ slice_bounds-result-end c = omega (arith, room _ _ _ _ c.requires.entries_from c
 pub returns : goal.returns
 returns c =
     let from = c.requires.entries_from in
-    entry_part from.fabric c.requires.e_bound _ (size_is _ _ _ _ from c.entry_words-size.ensures) _
-    (ap (λ (k : ℕ). k + c.args.e * (4 * c.entry_words-size.result)) from.base_is)
+    record {
+      entry =
+          entry_part from.fabric c.requires.e_bound _ (size_is _ _ _ _ from c.entry_words-size.ensures) _
+          (ap (λ (k : ℕ). k + c.args.e * (4 * c.entry_words-size.result)) from.base_is);
+      same_version = refl;
+    }

@@ -1,77 +1,64 @@
 -- `answer` meets its contract: a refused file is answered with its number and place, and an accepted one by `answer_accepted`.
 use mathlib.Core.List.{List}
 use mathlib.Core.Path.{◌≡◌, sym, ap, ◌∙◌, subst}
-use Prim.Native.Nat.{ℕ}
-use Rattle.answer.specs.Answer.{refused}
-use Rattle.layout.specs.Records.{Width}
-use Rattle.layout.specs.declared.Shape.{Shape}
+use Prim.Native.Nat.{ℕ, ◌+◌, ◌*◌}
+use borrow.Author.Rules.{rules}
+use Rattle.answer.specs.Answer.{outcome, refused}
+use Rattle.layout.specs.Shape.{Shape}
+use Rattle.layout.specs.Versions.{header_words, shape_counted}
+use Rattle.layout.specs.declared.Version.{Version}
+use Rattle.layout.proofs.Widths.{version_width}
 use Rattle.wide.specs.Forms.{wide_of, narrowed, Fits}
 use Rattle.questions.specs.Questions.{accepted}
-use Rattle.questions.specs.declared.Read.{Read}
-use Rattle.questions.specs.declared.Read.TheVariants.{Fabric}
+use Rattle.questions.specs.Read.{Read}
+use Rattle.questions.specs.Read as Reads
+use Rattle.questions.specs.Refusals.{number}
 use Rattle.file.specs.Accepted.{Accepted}
-use Rattle.file.specs.Tables.{Indexed, Tabled}
-use Rattle.file.proofs.Tables.{empty}
 use Rattle.file.proofs.Accepted.{accepted_own, words_said}
 use Rattle.file.proofs.Sound.{accepted_width}
 use Rattle.calls.specs.Questions.{query}
+use Rattle.calls.specs.Codes.{code_of, code_at, query_of}
 use Rattle.fabric.specs.Calls.{answer_of}
 use Rattle.fabric.proofs.Calls.{call_answers}
 use Rattle.fabric.proofs.answer.Goals as goal
 
--- the file is accepted with the shape found, in the call's own width
-record Found (hw : ℕ) (f : List ℕ) (s : Shape) (edges starts ends : List ℕ) : Type 0 where
-  is_read : accepted hw f ≡ Fabric s
-  ok : Accepted f s
-  words : s.words ≡ hw
-  tables : Indexed f s.edges s.links edges starts ends
+-- the file is accepted with the shape found, in the call's own version
+module _ (version : Version) (f : List ℕ) (s : Shape) (said : Reads.Fabric s ≡ accepted (header_words version) f) where
+  found : Accepted f s
+  found = accepted_own (header_words version) (version_width version) f s (sym said)
 
-found : {hw : ℕ} → Width hw → (f : List ℕ) (r : Read) (edges starts ends : List ℕ) → r ≡ accepted hw f
-    → Tabled f r edges starts ends → (s : Shape) → r ≡ Fabric s → Found hw f s edges starts ends
-found {hw = hw} width f r edges starts ends value tabled s is =
-    let is_read = sym value ∙ is in
-    let ok = accepted_own hw width f s is_read in
-    record {
-      is_read = is_read;
-      ok = ok;
-      words = words_said f s ok ∙ sym (accepted_width f hw width s is_read);
-      tables = subst (λ (r : Read). Tabled f r edges starts ends) is tabled;
-    }
+  words_found : s.words ≡ header_words version
+  words_found = words_said f s found ∙ sym (accepted_width f (header_words version) (version_width version) s (sym said))
 
-pub accept-requires : goal.accept-requires
-accept-requires c = record { width = c.requires.width; empty = empty; empty_2 = empty; empty_3 = empty }
+pub answer_accepted-requires-clause-accepted : goal.answer_accepted-requires-clause-accepted
+answer_accepted-requires-clause-accepted c = found c.args.version c.args.file.now _ c.in_ok-counts.ensures.value
 
-pub answer_accepted-requires : goal.answer_accepted-requires
-answer_accepted-requires c =
-    let last = c.accept.new in
-    let x =
-    found c.requires.width c.args.file.now c.accept.result last.edge_of last.starts last.ends
-    c.accept.ensures.value c.accept.ensures.tabled c.in-Fabric.shape c.in-Fabric.is in
-    record {
-      accepted = x.ok;
-      edge_table = x.tables.edge_at_lem;
-      start_table = x.tables.start_at;
-      fits = subst (λ (w : ℕ). Fits w (wide_of c.args.asked)) (sym x.words) c.requires.fits;
-    }
+pub answer_accepted-requires-clause-fits : goal.answer_accepted-requires-clause-fits
+answer_accepted-requires-clause-fits c =
+    subst (λ (w : ℕ). Fits w (wide_of c.args.query.asked))
+    (sym (words_found c.args.version c.args.file.now (shape_counted c.in_ok-counts.counts) c.in_ok-counts.ensures.value)) c.requires
 
-pub returns-in-No : goal.returns-in-No
+pub returns-in_err-counts-clause-answers : goal.returns-in_err-counts-clause-answers
 unfolding refused
-returns-in-No c =
+returns-in_err-counts-clause-answers c =
     let a = c.args in
-    let asked = query a.port a.limit a.budget (narrowed a.hw (wide_of a.asked)) in
-    ap (λ (r : Read). answer_of a.call a.file.now asked r a.area.now) (sym c.in-No.is ∙ c.accept.ensures.value)
-    ∙ call_answers a.call a.hw a.file.now asked a.area.now
+    let q = query_of a.version a.query in
+    let first = c.in_err-counts.field-0.0 in
+    let said : code_at c.from_residual.result ≡ first.place * 256 + number first.refusal = search rules in
+    ap (λ (n : ℕ). outcome n a.area.now) said
+    ∙ ap (λ (r : Read). answer_of a.call a.file.now q r a.area.now) c.in_err-counts.ensures.value
+    ∙ call_answers a.call (header_words a.version) a.file.now q a.area.now
 
-pub returns-in-Fabric : goal.returns-in-Fabric
-returns-in-Fabric c =
+pub returns-clause-answers : goal.returns-clause-answers
+returns-clause-answers c =
     let a = c.args in
-    let asked = query a.port a.limit a.budget (narrowed a.hw (wide_of a.asked)) in
-    let last = c.accept.new in
-    let x =
-    found c.requires.width a.file.now c.accept.result last.edge_of last.starts last.ends
-    c.accept.ensures.value c.accept.ensures.tabled c.in-Fabric.shape c.in-Fabric.is in
-    c.answer_accepted.ensures
+    let q = query_of a.version a.query in
+    let s = shape_counted c.in_ok-counts.counts in
+    let said : code_at c.map_err.result ≡ code_of c.answer_accepted.result = search rules in
+    ap (λ (n : ℕ). outcome n c.answer_accepted.new.area) said
+    ∙ c.answer_accepted.ensures.answers
     ∙ ap (λ (w : ℕ). answer_of a.call a.file.now
-    (query a.port a.limit a.budget (narrowed w (wide_of a.asked))) (Fabric c.in-Fabric.shape) a.area.now) x.words
-    ∙ ap (λ (r : Read). answer_of a.call a.file.now asked r a.area.now) (sym x.is_read)
-    ∙ call_answers a.call a.hw a.file.now asked a.area.now
+    (query a.query.port a.query.limit a.query.budget (narrowed w (wide_of a.query.asked))) (Reads.Fabric s) a.area.now)
+    (words_found a.version a.file.now s c.in_ok-counts.ensures.value)
+    ∙ ap (λ (r : Read). answer_of a.call a.file.now q r a.area.now) c.in_ok-counts.ensures.value
+    ∙ call_answers a.call (header_words a.version) a.file.now q a.area.now

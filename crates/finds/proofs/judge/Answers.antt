@@ -1,35 +1,25 @@
 -- `judge` meets its contract: without a foreign part the trace goes on, and else the words of the verdict are written.
-use mathlib.Core.Path.{◌∙◌}
-use borrow.Author.Tests.{not-true, not-false}
 use native.Mathlib.Omega.{arith}
-use Rattle.layout.proofs.Widths.{width_said}
 use Rattle.wide.specs.Forms.{wide_of}
-use Rattle.events.specs.Asked.{target_of}
 use Rattle.events.proofs.FindEdge.{edge_long}
 use Rattle.finds.proofs.FindForeign.{judged_on, judged_stops}
 use Rattle.finds.proofs.judge.Goals as goal
 
-pub foreign_part-foreign-requires : goal.foreign_part-foreign-requires
-foreign_part-foreign-requires c =
-    rw (c.edge-edge.ensures, c.number-w.ensures.0 ∙ c.requires.asked.width_is) (edge_long c.requires.has_edge)
+pub foreign_part-requires : goal.foreign_part-requires
+foreign_part-requires c = rw (c.edge_at-edge.ensures, c.requires.asked.width_is) (edge_long c.requires.has_edge)
 
-pub returns-then-not-foreign : goal.returns-then-not-foreign
-returns-then-not-foreign c =
+pub returns-in-None : goal.returns-in-None
+returns-in-None c =
     let a = c.args in
-    judged_on c.requires.has_edge (target_of a.ask.now) c.requires.asked.group_is a.path.now a.d (wide_of a.p)
-    (c.number-w.ensures.0 ∙ c.requires.asked.width_is) c.edge-edge.ensures
-    c.foreign_part-foreign.result c.foreign_part-foreign.ensures a.counters.now a.area.now (not-true _ c.if-not-foreign.true)
+    judged_on c.requires.has_edge a.ask.target c.requires.asked.group_is a.find.now.way.now (wide_of a.find.now.set)
+    c.requires.asked.width_is c.edge_at-edge.ensures a.counters a.area.now c.in-None.ensures
 
-pub put_reached-requires : goal.put_reached-requires
-put_reached-requires c =
-    let width = c.number-w.ensures.0 ∙ c.requires.asked.width_is in
-    record { width = width_said c.args.file.now width; path = c.requires.path; w_in_bounds = omega (arith, width, c.requires) }
+pub overflow_cast-counters : goal.overflow_cast-counters
+overflow_cast-counters c = omega (arith, c.requires.made_within)
 
-pub returns : goal.returns
-returns c =
+pub returns-in-Some : goal.returns-in-Some
+returns-in-Some c =
     let a = c.args in
-    let width = c.number-w.ensures.0 ∙ c.requires.asked.width_is in
-    judged_stops c.requires.has_edge (target_of a.ask.now) c.requires.asked.group_is a.path.now a.d (wide_of a.p) width
-    c.edge-edge.ensures c.foreign_part-foreign.result c.foreign_part-foreign.ensures
-    a.counters.now a.area.now (not-false _ c.if-not-foreign.false)
-    (rw (c.port_at.ensures, width) at c.put_reached.ensures)
+    judged_stops c.requires.has_edge a.ask.target c.requires.asked.group_is a.find.now.way.now (wide_of a.find.now.set)
+    c.requires.asked.width_is c.edge_at-edge.ensures a.counters a.area.now c.in-Some.ensures
+    (rw (c.port_at-port.ensures, c.requires.asked.width_is) at c.put_reached.ensures)

@@ -6,9 +6,7 @@ use Rattle.index.proofs.Steps.{partly_none}
 use Rattle.index.proofs.fill.Goals as goal
 
 pub places-requires : goal.places-requires
-places-requires c =
-    record { accepted = c.requires.accepted; placed = subst (Placed no_place 0) (sym c.requires.index_value) placed_none }
+places-requires c = subst (Placed no_place 0) (sym c.requires) placed_none
 
 pub chains-requires : goal.chains-requires
-chains-requires c =
-    record { accepted = c.requires.accepted; partly = partly_none _ _ c.requires.accepted _ c.places.ensures }
+chains-requires c = partly_none _ _ c.args.fabric.now.accepted _ c.places.ensures

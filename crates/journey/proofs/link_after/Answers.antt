@@ -2,14 +2,14 @@
 use mathlib.Core.Path.{◌≡◌, sym, ◌∙◌}
 use Prim.Native.Nat.{ℕ, suc, ◌-◌}
 use native.Mathlib.Omega.{arith}
+use Rattle.file.proofs.Accepted.{link_to_low}
 use Rattle.model.proofs.Lookups.{no_link, link_looked_up, link_number}
 use Rattle.journey.proofs.link_after.Goals as goal
 
-pub returns-then-k-eq0 : goal.returns-then-k-eq0
-returns-then-k-eq0 c =
-    let a = c.args in
-    sym (no_link a.file.now a.shape c.requires.accepted a.starts.now c.requires.start_table a.o c.requires.o_bound
-    (sym c.size-k.ensures ∙ c.if-k-eq0.true))
+pub returns-then-number-eq0 : goal.returns-then-number-eq0
+returns-then-number-eq0 c =
+    let s = c.args.links.now in
+    no_link _ _ s.fabric.accepted s.from.now s.table c.args.o c.requires (sym c.from-number.ensures ∙ c.if-number-eq0.true)
 
 -- the number found counts from 1
 one_more : {k n : ℕ} → (k ≡ 0 → ⊥) → k ≡ n → n ≡ suc (k - 1)
@@ -17,17 +17,14 @@ one_more some is = omega arith
 
 pub link_to-requires : goal.link_to-requires
 link_to-requires c =
-    let a = c.args in
-    record {
-      accepted = c.requires.accepted;
-      i_lt_links =
-          link_number a.file.now a.shape c.requires.accepted a.starts.now c.requires.start_table a.o c.requires.o_bound _
-          (one_more c.if-k-eq0.false c.size-k.ensures);
-    }
+    let s = c.args.links.now in
+    link_number _ _ s.fabric.accepted s.from.now s.table c.args.o c.requires _ (one_more c.if-number-eq0.false c.from-number.ensures)
 
 pub returns : goal.returns
 returns c =
-    let a = c.args in
-    c.link_to.ensures
-    ∙ sym (link_looked_up a.file.now a.shape c.requires.accepted a.starts.now c.requires.start_table a.o c.requires.o_bound _
-    (one_more c.if-k-eq0.false c.size-k.ensures))
+    let s = c.args.links.now in
+    let is = one_more c.if-number-eq0.false c.from-number.ensures in
+    let low = link_to_low _ _ s.fabric.accepted _ (link_number _ _ s.fabric.accepted s.from.now s.table c.args.o c.requires _ is) in (
+      omega (arith, low, c.link_to.ensures),
+      link_looked_up _ _ s.fabric.accepted s.from.now s.table c.args.o c.requires _ is ∙ sym c.link_to.ensures,
+    )

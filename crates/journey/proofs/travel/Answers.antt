@@ -11,33 +11,26 @@ use Rattle.journey.specs.Journey.{IsJourney}
 use Rattle.journey.proofs.Hops.{one_more_hop, few_hops}
 use Rattle.journey.proofs.travel.Goals as goal
 
-pub loop-k-init : goal.loop-k-init
+pub loop-init : goal.loop-init
 unfolding fate_of port_of taken_by header_of sixteen run
-loop-k-init c = search rules
+loop-init c = search rules
 
 pub hop-j-requires : goal.hop-j-requires
 hop-j-requires c =
-    let l = c.loop-k in
-    let F = wide_in c.args.file.now in
-    record {
-      accepted = c.requires.accepted;
-      start_table = c.requires.start_table;
-      hops_bound = few_hops F l.k c.args.start (words_of c.args.header) l.j l.invariant.1 (omega arith);
-    }
+    let l = c.loop in
+    few_hops (wide_in c.args.links.now.fabric.file.now) l.counter c.args.start (words_of c.args.header) l.j l.invariant (omega arith)
 
-pub loop-k-preserved : goal.loop-k-preserved
-loop-k-preserved c =
-    let l = c.loop-k in
-    let F = wide_in c.args.file.now in
-    let h = words_of c.args.header in (
-      search rules,
-      one_more_hop F l.k c.args.start h _
-          (c.hop-j.ensures.follows (run F l.k c.args.start h) (omega (arith, hops_within F l.k c.args.start h)) l.invariant.1),
-    )
+pub loop-preserved : goal.loop-preserved
+loop-preserved c =
+    let l = c.loop in
+    let F = wide_in c.args.links.now.fabric.file.now in
+    let h = words_of c.args.header in
+    one_more_hop F l.counter c.args.start h _
+    (c.hop-j.ensures.follows (run F l.counter c.args.start h) (omega (arith, hops_within F l.counter c.args.start h)) l.invariant)
 
 pub returns : goal.returns
 returns c =
-    let l = c.loop-k in
-    let F = wide_in c.args.file.now in
-    let all : l.k ≡ c.args.limit = omega arith in
-    subst (λ (k : ℕ). IsJourney F (run F k c.args.start (words_of c.args.header)) l.j) all l.invariant.1
+    let l = c.loop in
+    let F = wide_in c.args.links.now.fabric.file.now in
+    let all : l.counter ≡ c.args.limit = omega arith in
+    subst (λ (k : ℕ). IsJourney F (run F k c.args.start (words_of c.args.header)) l.j) all l.invariant

@@ -7,9 +7,9 @@ use Rattle.events.proofs.FindEdge.{edge_long}
 use Rattle.listing.proofs.port_at.Goals as goal
 
 pub port-requires : goal.port-requires
-port-requires c = rw c.edge.ensures (omega (arith, (edge_long c.requires).long))
+port-requires c = rw c.edge_at.ensures (omega (arith, (edge_long c.requires).long))
 
 pub returns : goal.returns
 returns c =
     let a = c.args in
-    c.port.ensures ∙ ap edge_port c.edge.ensures ∙ edge_port_is a.file.now a.k
+    c.port.ensures ∙ ap edge_port c.edge_at.ensures ∙ edge_port_is a.file.now a.k

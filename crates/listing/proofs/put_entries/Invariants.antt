@@ -1,6 +1,6 @@
 -- `put_entries` meets its contract. The loop's invariant: with the entries that are left written from here on, all are.
 use mathlib.Core.Path.{◌≡◌}
-use Prim.Native.Nat.{◌+◌, ◌-◌, ◌≤◌}
+use Prim.Native.Nat.{◌+◌}
 use lib.ListN.{length, drop}
 use Rattle.answer.specs.Answer.{written_at}
 use Rattle.events.proofs.FindWords.{entry_words}
@@ -8,9 +8,5 @@ use Rattle.listing.proofs.put_entries.Given as goal
 
 abbrev pub invariant-loop-i : goal.invariant-loop-i
 invariant-loop-i l =
-    (l.d ≤ l.i) × (l.i ≤ 16) × (length l.area ≡ length l.initial.area)
-    × (written_at (l.at + (l.i - l.d)) (entry_words (drop l.i l.path)) l.area
-    ≡ written_at l.at (entry_words (drop l.d l.path)) l.initial.area)
-
-abbrev pub decreases-loop-i : goal.decreases-loop-i
-decreases-loop-i l = 16 - l.i
+    (length l.area ≡ length l.initial.area)
+    × (written_at (l.at + l.i) (entry_words (drop l.i l.way)) l.area ≡ written_at l.at (entry_words l.way) l.initial.area)

@@ -1,60 +1,75 @@
 -- `lost_ports` meets its contract: its loop is at a port (`AtPort` of proofs/Ports.antt).
-use Prim.Native.Nat.{◌<◌}
-use native.Mathlib.Omega.{arith}
+use Rattle.std.proofs.Common.{◌≡◌, ◌<◌, arith, refl, ap, rules, Err}
 use Rattle.wide.specs.Forms.{wide_of}
+use Rattle.index.specs.Places.{number_of_place, IsFormed}
+use Rattle.index.specs.declared.Place.{Place}
+use Rattle.index.specs.declared.Place.TheVariants.{Nowhere, Port, Edge}
 use Rattle.entries.proofs.Entries.{entries_few}
 use Rattle.entries.proofs.InChains.{next_in_chain}
-use Rattle.backtrace.proofs.Trying.{part_ended, after_trials, part_traced}
+use Rattle.backtrace.proofs.Trying.{part_ended, after_trials, part_traced, part_halted}
 use Rattle.losses.proofs.Ports.{ports_begin, ports_end, first_there, port_skipped, port_ended, port_through}
 use Rattle.losses.proofs.lost_ports.Goals as goal
 
+-- another place than nowhere
+somewhere : (p : Place) → IsFormed p → (p ≡ Nowhere → ⊥) → 0 < number_of_place p
+somewhere Nowhere f n = absurd (n refl)
+somewhere (Port y) f n = f.0
+somewhere (Edge k) f n = omega arith
+
 pub loop-port-init : goal.loop-port-init
-loop-port-init c = ports_begin c.requires
+loop-port-init c =
+    let trace = c.args.trace.now in
+    ports_begin (record { asked = trace.asked; indexed = trace.indexed; tracing = c.requires })
 
-pub first_in-first-requires : goal.first_in-first-requires
-first_in-first-requires c = omega (arith, c.loop-port-test.true)
+pub loop-port-preserved-in-Nowhere : goal.loop-port-preserved-in-Nowhere
+loop-port-preserved-in-Nowhere c =
+    port_skipped c.loop-port.invariant c.loop-port-test.true c.place_at.ensures.value (ap number_of_place c.in-Nowhere.is)
 
-pub next_met-b-requires : goal.next_met-b-requires
-next_met-b-requires c =
-    let x = c.loop-port.invariant.tracing in
-    let along = first_there c.loop-port.invariant (omega (arith, c.loop-port-test.true)) c.first_in-first.ensures in
-    let chained = next_in_chain (entries_few x.asked.fabric) along in
-    record { asked = x.asked; index = x.indexed; of_chain = chained.of_chain; counters_len = x.room.counters_long }
-
-pub descend-r-requires : goal.descend-r-requires
-descend-r-requires c =
-    let x = c.loop-port.invariant.tracing in
-    let t = wide_of c.args.t in
-    let below : c.loop-port.port < 4096 = omega (arith, c.loop-port-test.true) in
-    let along = first_there c.loop-port.invariant below c.first_in-first.ensures in
+pub next_met-requires : goal.next_met-requires
+next_met-requires c =
+    let at = c.loop-port.invariant in
+    let along = first_there at c.loop-port-test.true c.first_in-first.ensures.value in
     record {
-      tracing = after_trials x _ 0 t along c.next_met-b.ensures;
-      port_bound = below;
-      ended = part_ended x _ 0 t along c.next_met-b.ensures;
+      of_chain = (next_in_chain (entries_few at.in_hand.asked.fabric) along).of_chain;
+      entry = c.first_in-first.ensures.entry;
     }
 
-pub returns-then-r-ne0 : goal.returns-then-r-ne0
-returns-then-r-ne0 c =
+pub returns-in_err-b : goal.returns-in_err-b
+returns-in_err-b c =
     let at = c.loop-port.invariant in
-    let t = wide_of c.args.t in
-    let below : c.loop-port.port < 4096 = omega (arith, c.loop-port-test.true) in
-    let along = first_there at below c.first_in-first.ensures in
-    port_ended at below c.place_at-place.ensures c.if-place-ne0.true
-    (part_traced at.tracing _ 0 t along c.next_met-b.ensures _ _ c.descend-r.ensures.traced) c.if-r-ne0.true
+    let along = first_there at c.loop-port-test.true c.first_in-first.ensures.value in
+    let there = somewhere c.place_at.result c.place_at.ensures.formed c.in_default.not-Nowhere in
+    let said : c.from_residual.result ≡ Err c.in_err-b.field-0.0 = search rules in
+    rw said (port_ended at c.loop-port-test.true c.place_at.ensures.value there
+    (part_halted at.in_hand _ 0 (wide_of c.args.t) along c.in_err-b.ensures _ _) refl)
 
-pub loop-port-preserved-else-r-ne0 : goal.loop-port-preserved-else-r-ne0
-loop-port-preserved-else-r-ne0 c =
+pub descend-requires : goal.descend-requires
+descend-requires c =
     let at = c.loop-port.invariant in
-    let t = wide_of c.args.t in
-    let below : c.loop-port.port < 4096 = omega (arith, c.loop-port-test.true) in
-    let along = first_there at below c.first_in-first.ensures in
-    port_through at below c.place_at-place.ensures c.if-place-ne0.true
-    (part_traced at.tracing _ 0 t along c.next_met-b.ensures _ _ c.descend-r.ensures.traced)
-    c.if-r-ne0.false c.descend-r.ensures.kept c.descend-r.auto.area
+    let along = first_there at c.loop-port-test.true c.first_in-first.ensures.value in
+    record {
+      tracing = (after_trials at.in_hand _ 0 (wide_of c.args.t) along c.in_ok-b.ensures).tracing;
+      port_bound = c.loop-port-test.true;
+      ended = part_ended at.in_hand _ 0 (wide_of c.args.t) along c.in_ok-b.ensures;
+    }
+
+pub returns-in_err-descend : goal.returns-in_err-descend
+returns-in_err-descend c =
+    let at = c.loop-port.invariant in
+    let along = first_there at c.loop-port-test.true c.first_in-first.ensures.value in
+    let there = somewhere c.place_at.result c.place_at.ensures.formed c.in_default.not-Nowhere in
+    let said : c.from_residual-in_err-descend.result ≡ Err c.in_err-descend.field-0.0 = search rules in
+    rw said (port_ended at c.loop-port-test.true c.place_at.ensures.value there
+    (part_traced at.in_hand _ 0 (wide_of c.args.t) along c.in_ok-b.ensures _ _ c.in_err-descend.ensures.traced) refl)
 
 pub loop-port-preserved : goal.loop-port-preserved
 loop-port-preserved c =
-    port_skipped c.loop-port.invariant (omega (arith, c.loop-port-test.true)) c.place_at-place.ensures c.if-place-ne0.false
+    let at = c.loop-port.invariant in
+    let along = first_there at c.loop-port-test.true c.first_in-first.ensures.value in
+    let there = somewhere c.place_at.result c.place_at.ensures.formed c.in_default.not-Nowhere in
+    port_through at c.loop-port-test.true c.place_at.ensures.value there
+    (part_traced at.in_hand _ 0 (wide_of c.args.t) along c.in_ok-b.ensures _ _ c.in_ok-descend.ensures.traced) refl
+    c.in_ok-descend.ensures.kept c.descend.auto.area
 
 pub returns : goal.returns
-returns c = ports_end c.loop-port.invariant (omega (arith, c.loop-port-test.false))
+returns c = ports_end c.loop-port.invariant c.loop-port-test.false _

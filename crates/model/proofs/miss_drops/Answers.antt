@@ -9,9 +9,9 @@ use Rattle.model.proofs.Shapes.{miss_is}
 use Rattle.model.proofs.miss_drops.Goals as goal
 
 pub word-requires : goal.word-requires
-word-requires c = omega (arith, ends_file c.args.file.now c.args.shape c.requires)
+word-requires c = omega (arith, ends_file _ _ c.args.fabric.now.accepted)
 
 pub returns : goal.returns
 returns c =
     ap (λ (n : ℕ). eqb n 1) (c.choice_of.ensures ∙ ap choice_of c.word.ensures)
-    ∙ sym (miss_is c.args.file.now)
+    ∙ sym (miss_is c.args.fabric.now.file.now)

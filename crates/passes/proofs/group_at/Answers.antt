@@ -1,45 +1,42 @@
 -- `group_at` meets its contract: the table has the number of the edge at an edge port.
-use mathlib.Core.Path.{◌≡◌, sym, ap, ◌∙◌}
-use Prim.Native.Nat.{◌-◌, ◌*◌}
-use native.Mathlib.Omega.{arith}
-use lib.ListN.{length, get_or}
+use Rattle.std.proofs.Common.{◌≡◌, ◌*◌, ◌∙◌, sym, ap, length, arith, true}
 use Rattle.layout.specs.Records.{width_in, edge_words, edge_group, edge_bytes}
+use Rattle.layout.specs.Versions.{shape_counted}
+use Rattle.file.specs.declared.EdgePorts.{EdgePorts}
 use Rattle.file.proofs.Accepted.{edge_of}
-use Rattle.model.proofs.Lookups.{edge_found}
+use Rattle.model.specs.Model.{fabric_in}
+use Rattle.model.proofs.Lookups.{EdgeFound, edge_found}
 use Rattle.passes.proofs.group_at.Goals as goal
 
-pub bounds-edge_of-port : goal.bounds-edge_of-port
-bounds-edge_of-port c =
-    let a = c.args in
-    let there = edge_found a.file.now a.shape c.requires.accepted a.edge_of.now c.requires.edge_table a.port c.requires.port_value in
-    omega (arith, there.high)
+-- the edge at the port
+there : (e : EdgePorts) {port : _} → (fabric_in e.fabric.file.now).is_edge port ≡ true
+    → EdgeFound e.fabric.file.now (shape_counted e.fabric.counts) e.fabric.accepted e.at.now port
+there e is = edge_found e.fabric.file.now (shape_counted e.fabric.counts) e.fabric.accepted e.at.now e.table _ is
+
+pub bounds-edges-port : goal.bounds-edges-port
+bounds-edges-port c = omega (arith, (there c.args.edges.now c.requires).high)
 
 pub overflow_sub-k : goal.overflow_sub-k
-overflow_sub-k c =
-    let a = c.args in
-    let there = edge_found a.file.now a.shape c.requires.accepted a.edge_of.now c.requires.edge_table a.port c.requires.port_value in
-    omega (arith, there.numbered)
+overflow_sub-k c = omega (arith, (there c.args.edges.now c.requires).numbered)
 
 pub edge-requires : goal.edge-requires
 edge-requires c =
-    let a = c.args in
-    let there = edge_found a.file.now a.shape c.requires.accepted a.edge_of.now c.requires.edge_table a.port c.requires.port_value in
-    record { shape = a.shape; is_accepted = c.requires.accepted; below = omega (arith, there.numbered, there.below) }
+    let e = there c.args.edges.now c.requires in
+    omega (arith, e.numbered, e.below)
 
 pub group-requires : goal.group-requires
 group-requires c =
-    let a = c.args in
-    let there = edge_found a.file.now a.shape c.requires.accepted a.edge_of.now c.requires.edge_table a.port c.requires.port_value in
+    let fabric = c.args.edges.now.fabric in
+    let e = there c.args.edges.now c.requires in
     -- the edge read is the one at the port
-    let is_edge : get_or a.edge_of.now a.port 0 - 1 ≡ there.edge = omega (arith, there.numbered) in
-    let long : length c.edge.result.now ≡ 4 * edge_words (width_in a.file.now) =
-    ap length (c.edge.ensures ∙ ap (edge_bytes a.file.now) is_edge)
-    ∙ (edge_of a.file.now a.shape c.requires.accepted there.edge there.below).long in
+    let is_edge : c.from.result ≡ e.edge = omega (arith, e.numbered, c.from.ensures) in
+    let long : length c.edge.result.now ≡ 4 * edge_words (width_in fabric.file.now) =
+    ap length (c.edge.ensures ∙ ap (edge_bytes fabric.file.now) is_edge)
+    ∙ (edge_of fabric.file.now (shape_counted fabric.counts) fabric.accepted e.edge e.below).long in
     omega (arith, long)
 
 pub returns : goal.returns
 returns c =
-    let a = c.args in
-    let there = edge_found a.file.now a.shape c.requires.accepted a.edge_of.now c.requires.edge_table a.port c.requires.port_value in
-    let is_edge : get_or a.edge_of.now a.port 0 - 1 ≡ there.edge = omega (arith, there.numbered) in
-    c.group.ensures ∙ ap edge_group (c.edge.ensures ∙ ap (edge_bytes a.file.now) is_edge) ∙ sym there.group_is
+    let e = there c.args.edges.now c.requires in
+    let is_edge : c.from.result ≡ e.edge = omega (arith, e.numbered, c.from.ensures) in
+    c.group.ensures ∙ ap edge_group (c.edge.ensures ∙ ap (edge_bytes c.args.edges.now.fabric.file.now) is_edge) ∙ sym e.group_is

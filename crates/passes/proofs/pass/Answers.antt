@@ -1,31 +1,30 @@
--- `pass` meets its contract: its numbers are those that `stop` needs, and what `stop` leaves is the pass.
-use native.Mathlib.Omega.{arith}
-use Rattle.layout.proofs.Widths.{width_said}
+-- `pass` meets its contract: its trace is of an accepted file, and what `stop` leaves is the pass.
+use Rattle.std.proofs.Common.{arith, refl}
+use Rattle.layout.specs.Versions.{shape_counted}
 use Rattle.wide.specs.Forms.{wide_of}
 use Rattle.file.proofs.Accepted.{words_said}
 use Rattle.model.proofs.Lookups.{edge_found}
-use Rattle.passes.proofs.Passing.{tracing, passed}
+use Rattle.passes.proofs.Passing.{asked, passed}
 use Rattle.passes.proofs.pass.Goals as goal
 
-pub overflow_cast-ask : goal.overflow_cast-ask
-overflow_cast-ask c = omega (arith, (width_said _ (words_said _ _ c.requires.accepted)).high)
-
-pub stop-status-requires : goal.stop-status-requires
-stop-status-requires c =
-    let a = c.args in
-    let p = c.requires in
-    let there = edge_found a.file.now a.shape p.accepted a.edge_of.now p.edge_table a.target p.target_value in
+pub invariant_of-trace : goal.invariant_of-trace
+invariant_of-trace c =
+    let fabric = c.args.edges.now.fabric in
     record {
-      tracing =
-          tracing a.file.now a.shape p.accepted a.budget a.mode a.limit a.target _ _ _ p.le_limit.0 p.le_limit.1
-          a.index.now a.area.now p.index c.group_at.ensures c.entries_at.ensures (words_said _ _ p.accepted) p.file_in_bounds;
-      place = record { edge = λ l. absurd (omega (arith, there.high)) };
+      asked = asked fabric.accepted _ c.group_at.ensures c.entries_at.ensures (words_said _ _ fabric.accepted);
+      indexed = c.requires.index;
     }
+
+pub stop-ended-requires-clause-place : goal.stop-ended-requires-clause-place
+stop-ended-requires-clause-place c =
+    let e = c.args.edges.now in
+    let there = edge_found e.fabric.file.now (shape_counted e.fabric.counts) e.fabric.accepted e.at.now e.table
+    c.args.query.now.port c.requires.target_value in (omega (arith, there.low), there.high)
 
 pub returns : goal.returns
 returns c =
-    let a = c.args in
-    let p = c.requires in
-    let there = edge_found a.file.now a.shape p.accepted a.edge_of.now p.edge_table a.target p.target_value in
-    passed a.file.now a.shape p.accepted a.budget a.mode a.limit a.target _ _ _ p.le_limit.0 p.le_limit.1
-    (wide_of a.asked) a.area.now _ _ _ there.low there.high c.stop-status.ensures.traced
+    let e = c.args.edges.now in
+    let there = edge_found e.fabric.file.now (shape_counted e.fabric.counts) e.fabric.accepted e.at.now e.table
+    c.args.query.now.port c.requires.target_value in
+    passed e.fabric.file.now _ c.args.query.now.limit c.requires.le_limit.0 c.requires.le_limit.1 refl there.low there.high
+    (wide_of c.args.query.now.asked) c.args.area.now c.stop-ended.ensures.traced

@@ -1,11 +1,15 @@
 -- `cares_for_all` meets its contract: by the halves, of which version 1 has one.
 use borrow.Author.Rules.{rules}
-use Rattle.queries.proofs.Cared.{cared_four, cared_eight}
+use Rattle.queries.proofs.Cared.{not_cared, cared_then}
 use Rattle.queries.proofs.cares_for_all.Goals as goal
 
-pub returns-then-w-eq-HALF : goal.returns-then-w-eq-HALF
-returns-then-w-eq-HALF c = cared_four c.args.s.low.care c.args.s.high.care (search rules) c.args.w c.if-w-eq-HALF.true
+pub returns-in-Two : goal.returns-in-Two
+returns-in-Two c =
+    let s = c.args.s in
+    cared_then s.low.care s.high.care (search rules) (search rules) c.args.version c.in-Two.is _ _ c.eq.ensures c.if-eq.true
+    c.eq-in-Two.ensures
 
-pub returns : goal.returns
-returns c =
-    cared_eight c.args.s.low.care c.args.s.high.care (search rules) c.args.w (search rules) c.requires c.if-w-eq-HALF.false
+pub returns-else-eq : goal.returns-else-eq
+returns-else-eq c =
+    let s = c.args.s in
+    not_cared s.low.care s.high.care (search rules) (search rules) c.args.version _ c.eq.ensures c.if-eq.false

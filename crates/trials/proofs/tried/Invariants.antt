@@ -3,12 +3,13 @@
 use Prim.Native.Nat.{◌-◌}
 use Rattle.wide.specs.Forms.{wide_of}
 use Rattle.model.specs.Model.{wide_in}
-use Rattle.events.specs.Asked.{budget_of}
+use Rattle.index.specs.Places.{chain_number}
 use Rattle.trials.proofs.Walk.{AtTrial}
 use Rattle.trials.proofs.tried.Given as goal
 
-abbrev pub invariant-loop-b : goal.invariant-loop-b
-invariant-loop-b l = AtTrial (wide_in l.file) (budget_of l.ask) l.least l.j (wide_of l.p) l.initial.counters l.b l.counters
+abbrev pub invariant-loop-next : goal.invariant-loop-next
+invariant-loop-next l =
+    AtTrial (wide_in l.trace.file.now) l.trace.ask.budget l.least (chain_number l.fn.j) (wide_of l.p) l.initial.counters l.next l.counters
 
-abbrev pub decreases-loop-b : goal.decreases-loop-b
-decreases-loop-b l = 512 - l.b
+abbrev pub decreases-loop-next : goal.decreases-loop-next
+decreases-loop-next l = 512 - chain_number l.next

@@ -7,7 +7,8 @@ use lib.ListN.{length, take, replicate}
 use lib.Seq.{length-take-le}
 use Rattle.answer.specs.Answer.{answer_words, written_at}
 use Rattle.layout.specs.Records.{Width}
-use Rattle.layout.proofs.Widths.{by_width}
+use Rattle.layout.specs.Versions.{header_words}
+use Rattle.layout.proofs.Widths.{by_width, version_width}
 use Rattle.forwarding.specs.Verdict.{isolated}
 use Rattle.calls.specs.Verdict.{verdict_words}
 use Rattle.verdict_call.proofs.put_isolated.Goals as goal
@@ -28,10 +29,10 @@ written_long {n = n} units width e = length-take-le {A = ℕ} n (0 ∷ units ∷
 pub put_words-requires : goal.put_words-requires
 put_words-requires c =
     let e = c.answer_words-n.ensures in
-    omega (arith, written_long c.args.units c.requires.width e, e, c.requires.w_in_bounds)
+    omega (arith, written_long c.args.units (version_width c.args.version) e, e, c.requires)
 
 pub returns : goal.returns
 returns c =
     c.put_words.ensures
     ∙ ap (λ (l : List ℕ). written_at 0 l c.args.area.now)
-    (isolated-words c.args.units _ c.args.w c.requires.width c.answer_words-n.ensures)
+    (isolated-words c.args.units _ (header_words c.args.version) (version_width c.args.version) c.answer_words-n.ensures)

@@ -1,5 +1,5 @@
 -- `Action::unwritten` meets its contract: the test that it makes is the one that decides the undone set.
-use mathlib.Core.Path.{sym, ◌∙◌, ap}
+use Rattle.std.proofs.Common.{sym, ◌∙◌, ap}
 use Rattle.headers.specs.Sets.{undone, overlaps}
 use Rattle.sets.specs.Forms.{set_of}
 use Rattle.sets.specs.declared.HeaderSet.{HeaderSet}
@@ -19,7 +19,6 @@ pub returns-else-overlaps : goal.returns-else-overlaps
 unfolding undone
 returns-else-overlaps c =
     let a = c.args in
-    empty_set _ _ _
+    empty_set _ _
     (ap (λ (w : HeaderSet). overlaps 4 (set_of a.t) (set_of w)) (sym c.writes.ensures)
     ∙ sym c.overlaps.ensures ∙ c.if-overlaps.false)
-    c.all_wild.ensures

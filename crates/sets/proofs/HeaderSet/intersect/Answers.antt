@@ -10,4 +10,4 @@ returns-then-overlaps c = some_set _ _ _ (sym c.overlaps.ensures ∙ c.if-overla
 
 pub returns-else-overlaps : goal.returns-else-overlaps
 unfolding intersection
-returns-else-overlaps c = empty_set _ _ _ (sym c.overlaps.ensures ∙ c.if-overlaps.false) c.all_wild.ensures
+returns-else-overlaps c = empty_set _ _ (sym c.overlaps.ensures ∙ c.if-overlaps.false)

@@ -1,5 +1,5 @@
 -- `HeaderSet::untransferred` meets its contract: each transfer has its own way back.
-use mathlib.Core.Bool.{true}
+use Rattle.std.proofs.Common.{Some, ap}
 use Rattle.sets.proofs.HeaderSet.untransferred.Goals as goal
 
 pub returns-in-Keep : goal.returns-in-Keep
@@ -9,4 +9,4 @@ pub returns-in-Copy : goal.returns-in-Copy
 returns-in-Copy c = rw c.in-Copy.is c.uncopied.ensures
 
 pub returns-in-Swap : goal.returns-in-Swap
-returns-in-Swap c = rw c.in-Swap.is (λ i. record { some = true; set = c.unswapped.ensures i })
+returns-in-Swap c = rw c.in-Swap.is (ap Some c.unswapped.ensures)
