@@ -87,8 +87,10 @@ pub fn stop(
     Ok(())
 }
 
-// What entry e takes back, p, is tried against its beaters, with the entry on the path.
+// What entry e takes back, p, is tried against its beaters, with the entry on the path. Inlined, so that it is no further
+// level of the descent.
 #[cycle(carve_descend_stop)]
+#[inline(always)]
 fn take_back(
     trace: &Trace,
     area: &mut [u8],
