@@ -52,8 +52,9 @@ next_along a i {x} {b} m r h = rw m.in_port_lem at (next_with_lem a i b r m.is_e
 -- ---- the loop over the parts
 
 -- `rest` is carved on over its free bits: what is left to be played now is what was to be played at first, of the part p₀
-pub record AtPart (f : List ℕ) (ask : Ask) (index : List ℕ) (x q b : ℕ) (m : Set) (d : ℕ) (path₀ : List ℕ) (counters₀ : Counters)
-    (area₀ : List ℕ) (p₀ : Set) (path : List ℕ) (counters : Counters) (area : List ℕ) (rest : Set) : Type 0 where
+pub record AtPart (f : List ℕ) (ask : Ask) (index : List ℕ) (x q b : ℕ) (m : Set) (d : ℕ) (path₀ : List ℕ)
+    (counters₀ : Counters) (area₀ : List ℕ) (p₀ : Set) (path : List ℕ) (counters : Counters) (area : List ℕ) (rest : Set)
+    : Type 0 where
   pub in_hand : InHand f ask index d path counters area
   pub area_long : length area ≡ length area₀
   pub kept : Kept d path₀ path
@@ -186,8 +187,9 @@ module _ {f : List ℕ} {ask : Ask} {index : List ℕ} {x q b : ℕ} {m : Set} {
 -- ---- as the code has it
 
 -- the loop at a cut, by the match of entry b; the first cut was c₀
-pub record AtCut (f : List ℕ) (ask : Ask) (index : List ℕ) (x q b d : ℕ) (path₀ : List ℕ) (counters₀ : Counters) (area₀ : List ℕ)
-    (matches : StoredSet) (c₀ : Cut) (path : List ℕ) (counters : Counters) (area : List ℕ) (c : Cut) : Type 0 where
+pub record AtCut (f : List ℕ) (ask : Ask) (index : List ℕ) (x q b d : ℕ) (path₀ : List ℕ)
+    (counters₀ : Counters) (area₀ : List ℕ) (matches : StoredSet) (c₀ : Cut)
+    (path : List ℕ) (counters : Counters) (area : List ℕ) (c : Cut) : Type 0 where
   pub at_part :
       AtPart f ask index x q b (set_there matches) d path₀ counters₀ area₀ (wide_of c₀.set) path counters area (wide_of c.set)
   pub is_cut : IsCut (header_words matches.version) matches.bytes.now matches.at c

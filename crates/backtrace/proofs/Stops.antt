@@ -103,7 +103,8 @@ pub record AtEntry (f : List ℕ) (ask : Ask) (index : List ℕ) (place : ℕ) (
 
 -- the next entry, or none, as the index says
 pub record AtNext (f : List ℕ) (ask : Ask) (index : List ℕ) (place : ℕ) (t : Set) (d : ℕ) (path₀ : List ℕ)
-    (counters₀ : Counters) (area₀ : List ℕ) (next : std.Option ℕ) (path : List ℕ) (counters : Counters) (area : List ℕ) : Type 0 where
+    (counters₀ : Counters) (area₀ : List ℕ) (next : std.Option ℕ) (path : List ℕ) (counters : Counters) (area : List ℕ)
+    : Type 0 where
   pub at : AtEntry f ask index place t d path₀ counters₀ area₀ (chain_number next) path counters area
   pub formed : IsEntry next
 
@@ -140,7 +141,8 @@ first_entry {f} {ask} {index} {d} {path} {counters} {area} x place t next low l 
     kept = kept_same path x.tracing.on_path.long;
     left =
         ap (λ (es : List Event). run f ask es counters area)
-        (sym (ap (λ (k : ℕ). events_at f place t k (drop d path)) (let one_more : d - floor_of ask ≡ suc hops = omega arith in one_more)
+        (sym (ap (λ (k : ℕ). events_at f place t k (drop d path))
+        (let one_more : d - floor_of ask ≡ suc hops = omega arith in one_more)
         ∙ port_events f place (suc hops) (drop d path) t l (λ z. omega arith)
         ∙ left_at_first f place hops (drop d path) t
         ∙ left_skips f place hops (drop d path) t 0 (chain_number next) n));
@@ -277,8 +279,9 @@ module _ {f : List ℕ} {ask : Ask} {index : List ℕ} {place : ℕ} {t : Set} {
               ∙ after_its_unit;
         })
 
-        pub entry_through : {v : Unit {0}} → r ≡ Ok v → {next : std.Option ℕ} → chain_number next ≡ get_or index (next_out + e) 0
-            → IsEntry next → {path₂ : List ℕ} → Kept d path path₂ → length area₂ ≡ length area
+        pub entry_through : {v : Unit {0}} → r ≡ Ok v
+            → {next : std.Option ℕ} → chain_number next ≡ get_or index (next_out + e) 0 → IsEntry next
+            → {path₂ : List ℕ} → Kept d path path₂ → length area₂ ≡ length area
             → AtNext f ask index place t d path₀ counters₀ area₀ next path₂ counters₂ area₂
         entry_through {v} z {next} g formed {path₂} k a = record {
           at = record {
@@ -298,10 +301,11 @@ module _ {f : List ℕ} {ask : Ask} {index : List ℕ} {place : ℕ} {t : Set} {
         }
 
 -- fewer entries are left
-pub fewer_left : {f : List ℕ} {ask : Ask} {index : List ℕ} {place : ℕ} {t : Set} {d : ℕ} {path₀ : List ℕ} {counters₀ : Counters}
-    {area₀ : List ℕ} {next : std.Option ℕ} {path : List ℕ} {counters : Counters} {area : List ℕ}
+pub fewer_left : {f : List ℕ} {ask : Ask} {index : List ℕ} {place : ℕ} {t : Set} {d : ℕ} {path₀ : List ℕ}
+    {counters₀ : Counters} {area₀ : List ℕ} {next : std.Option ℕ} {path : List ℕ} {counters : Counters} {area : List ℕ}
     → AtNext f ask index place t d path₀ counters₀ area₀ next path counters area → {e : ℕ} → next ≡ Some e
-    → (later : std.Option ℕ) → chain_number later ≡ get_or index (next_out + e) 0 → 512 - chain_number later < 512 - chain_number next
+    → (later : std.Option ℕ) → chain_number later ≡ get_or index (next_out + e) 0
+    → 512 - chain_number later < 512 - chain_number next
 fewer_left {next = next} x {e} is later g =
     let below = below_none x is in
     let on = later_entry (come_to x is) below g in

@@ -139,7 +139,8 @@ module _ {f : List ℕ} {ask : Ask} {index : List ℕ} {d : ℕ} {path : List �
   of_these : {r : Result (Option ℕ) Halt} {counters : Counters} → Answered r counters → NextMet these counters₀ r counters
   of_these n = rw (ranked_next (wide_in f) q along) n
 
-  pub after_trials : {r : Result (Option ℕ) Halt} {counters : Counters} → Answered r counters → InHand f ask index d path counters area
+  pub after_trials : {r : Result (Option ℕ) Halt} {counters : Counters} → Answered r counters
+      → InHand f ask index d path counters area
   after_trials n = record {
     asked = t.asked;
     indexed = t.indexed;

@@ -51,5 +51,6 @@ mode_numbers : (mode_number Modes.List ∷ mode_number Modes.Judge ∷ []) ≡ 2
 mode_numbers = refl
 
 -- through, the budget used, and the verdict stops
-statuses : (status_of {T = ℕ} (Ok 5) ∷ status_of {T = ℕ} (Err BudgetUsed) ∷ status_of {T = ℕ} (Err Reached) ∷ []) ≡ 0 ∷ 1 ∷ 2 ∷ []
+statuses : (status_of {T = ℕ} (Ok 5) ∷ status_of {T = ℕ} (Err BudgetUsed) ∷ status_of {T = ℕ} (Err Reached) ∷ [])
+    ≡ 0 ∷ 1 ∷ 2 ∷ []
 statuses = refl

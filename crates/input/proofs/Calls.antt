@@ -52,7 +52,8 @@ module _ (input area : List ℕ) where
       at_least false = omega arith
 
   -- one of the version that is marked has its own
-  pub too_short_marked : {w : ℕ} → width_marked first ≡ w → length input < 4 * query_words w → refused 14 0 area ≡ program_call input area
+  pub too_short_marked : {w : ℕ} → width_marked first ≡ w → length input < 4 * query_words w
+      → refused 14 0 area ≡ program_call input area
   too_short_marked {w = w} e l = short w (call_named (bits 30 0 first)) l ∙ is_called e refl
 
   pub unknown : call_named (bits 30 0 first) ≡ none → refused 14 0 area ≡ program_call input area

@@ -37,8 +37,8 @@ zero_group f s ok = go (edge_at f (shape_in f) 0) (fabric_sound f s ok).zero_no_
     go (suc m) e = absurd (true≢false (sym (lt-ltb 0 (suc m) (omega arith)) ∙ e))
 
 -- what is known of the file
-pub asked : {f : List ℕ} {s : Shape} → Accepted f s → (ask : Ask) → ask.target ≡ 0 → ask.group ≡ 0 → ask.base ≡ entries_at f
-    → header_words ask.version ≡ width_in f → Asked f ask
+pub asked : {f : List ℕ} {s : Shape} → Accepted f s → (ask : Ask) → ask.target ≡ 0 → ask.group ≡ 0
+    → ask.base ≡ entries_at f → header_words ask.version ≡ width_in f → Asked f ask
 asked {f} {s} ok ask t g b w = record {
   fabric = record { shape = s; is_accepted = ok };
   group_is = g ∙ zero_group f s ok ∙ ap (fabric_in f).group (sym t);

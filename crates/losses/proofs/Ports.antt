@@ -73,8 +73,8 @@ ports_begin {f} {ask} {index} {path} {counters} {area} {t} x = record {
       (sym (ports_are f));
 }
 
-module _ {f : List ℕ} {ask : Ask} {index : List ℕ} {t : Set} {counters₀ : Counters} {area₀ : List ℕ} {port : ℕ} {path : List ℕ}
-    {counters : Counters} {area : List ℕ} (x : AtPort f ask index t counters₀ area₀ port path counters area) where
+module _ {f : List ℕ} {ask : Ask} {index : List ℕ} {t : Set} {counters₀ : Counters} {area₀ : List ℕ} {port : ℕ}
+    {path : List ℕ} {counters : Counters} {area : List ℕ} (x : AtPort f ask index t counters₀ area₀ port path counters area) where
   abbrev hops : ℕ
   hops = 16 - floor_of ask
 

@@ -1,12 +1,11 @@
 -- Whether an entry that was read is a candidate for a header, and what the search keeps then. Assumes nothing.
-use mathlib.Core.Bool.{Bool, true, false, ◌&&◌, and-false}
+use mathlib.Core.Bool.{Bool, true, false, ◌&&◌}
 use mathlib.Core.List.{List}
 use mathlib.Core.Logic.{◌⊎◌, inl, inr}
 use mathlib.Core.Path.{◌≡◌, refl, sym, ap, ap₂, ◌∙◌, subst}
 use Prim.Native.Nat.{ℕ, ◌+◌, ◌<◌}
 use native.Mathlib.Omega.{arith}
 use borrow.Author.Tests.{eq-eqb, ne_eqb, ltb-true, ltb-false}
-use lib.Dec.{eqb}
 use Rattle.headers.specs.Sets.{Header, Set, contains}
 use Rattle.layout.specs.Records.{width_in, match_at, entry_in, entry_match}
 use Rattle.layout.specs.Shape.{Shape}
@@ -34,7 +33,8 @@ module _ (f : List ℕ) (s : Shape) (ok : Accepted f s) (x : ℕ) (h : Header) (
       (ne_eqb x (in_port_of (fabric_in f) i) (λ q. d (read.in_port_lem ∙ sym q)))
 
   -- past the test of the port that of the match decides
-  pub tested : entry_in e ≡ x → (t : Bool) → t ≡ contains wide_words (stored_at s.words e match_at) h → t ≡ candidate (wide_in f) x h i
+  pub tested : entry_in e ≡ x → (t : Bool) → t ≡ contains wide_words (stored_at s.words e match_at) h
+      → t ≡ candidate (wide_in f) x h i
   tested p t d = sym (
       ap₂ ◌&&◌ (eq-eqb x (in_port_of (fabric_in f) i) (sym p ∙ read.in_port_lem))
       (holds_is ∙ sym (d ∙ ap (λ (w : ℕ). contains wide_words (stored_at w e match_at) h) (words_said f s ok))))

@@ -34,7 +34,8 @@ asked {s = s} ok ask g b w = record {
   width_is = w;
 }
 
-module _ (f : List ℕ) (ask : Ask) (limit : ℕ) (limit-low : 1 ≤ limit) (limit-high : limit ≤ 16) (floor : ask.floor ≡ 16 - limit) where
+module _ (f : List ℕ) (ask : Ask)
+    (limit : ℕ) (limit-low : 1 ≤ limit) (limit-high : limit ≤ 16) (floor : ask.floor ≡ 16 - limit) where
   -- with no unit made and no entry on the path
   pub tracing : {s : Shape} (index area : List ℕ) → Accepted f s → Index f index → ask.group ≡ (fabric_in f).group ask.target
       → ask.base ≡ entries_at f → header_words ask.version ≡ width_in f
@@ -49,8 +50,9 @@ module _ (f : List ℕ) (ask : Ask) (limit : ℕ) (limit-low : 1 ≤ limit) (lim
       port_events f ask.target (16 - ask.floor) [] t high (λ z. omega arith)
       ∙ ap (λ (hops : ℕ). stop (wide_in f) hops ask.target t []) (let e : 16 - ask.floor ≡ limit = omega arith in e)
 
-  pub passed : 1 ≤ ask.target → ask.target < 4096 → (t : Set) (area : List ℕ) {r : Result (Unit {0}) Halt} {counters : Counters}
-      {last : List ℕ} → Traced f ask (events_at f ask.target t (16 - ask.floor) []) (record { made = 0; words = 0 }) area r counters last
+  pub passed : 1 ≤ ask.target → ask.target < 4096 → (t : Set) (area : List ℕ)
+      {r : Result (Unit {0}) Halt} {counters : Counters} {last : List ℕ}
+      → Traced f ask (events_at f ask.target t (16 - ask.floor) []) (record { made = 0; words = 0 }) area r counters last
       → played_then (record { ended = r; counters = counters }) last
       ≡ pass_of f (mode_number ask.mode) ask.target limit ask.budget t area
   unfolding found_by

@@ -1,7 +1,7 @@
 -- Question 10 of a run by the halves of a set, of which version 1 has one.
 use mathlib.Core.Bool.{Bool, true, false, ◌&&◌, and-true}
 use mathlib.Core.List.{List, [], ◌∷◌, ◌++◌}
-use mathlib.Core.Path.{◌≡◌, refl, sym, ap, ap₂, ◌∙◌}
+use mathlib.Core.Path.{◌≡◌, refl, sym, ap, ◌∙◌}
 use Prim.Native.Nat.{ℕ, ◌+◌, ◌≤◌}
 use native.Mathlib.Omega.{arith}
 use lib.Dec.{eqb}
@@ -67,4 +67,5 @@ module _ (low high : List ℕ) (first : length low ≡ half) where
       → b ≡ pointwise eqb high (all_bits 4 ∷ all_bits 5 ∷ all_bits 6 ∷ all_bits 7 ∷ [])
       → b ≡ cared (header_words v) (take (header_words v) (low ++ high))
   cared_then last v two a b low_is all high_is = rw two (
-      high_is ∙ four high last half ∙ ap (λ (a : Bool). a && cared_from half high) (sym all ∙ low_is ∙ four low first 0) ∙ cared_eight last)
+      high_is ∙ four high last half
+      ∙ ap (λ (a : Bool). a && cared_from half high) (sym all ∙ low_is ∙ four low first 0) ∙ cared_eight last)

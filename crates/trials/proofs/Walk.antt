@@ -82,7 +82,8 @@ first_trial o i = record { of_chain = o; is_entry = i; words_stay = refl; left =
 
 -- the chain ends
 pub walk_ends : {f : Fabric} {budget q j : ℕ} {p : Set} {counters₀ counters : Counters} → f.entries ≤ no_entry
-    → AtTrial f budget q j p counters₀ None counters → NextMet (trials_from f budget q j p counters₀.made) counters₀ (Ok None) counters
+    → AtTrial f budget q j p counters₀ None counters
+    → NextMet (trials_from f budget q j p counters₀.made) counters₀ (Ok None) counters
 unfolding tried
 walk_ends {f} {budget} {q} {j} {p} {counters₀} {counters} few x =
     let done : record { ending = past; made = counters.made } ≡ trials_from f budget q j p counters₀.made =

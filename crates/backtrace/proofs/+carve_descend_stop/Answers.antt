@@ -67,8 +67,8 @@ after_entry : (t : Trace) → {x b : ℕ} {p : Set} → Met (wide_in t.file.now)
 after_entry t met o = next_along t.asked.fabric t.indexed met (chain_number o)
 
 -- bits are free, exactly if the cut has some
-left_exactly : {f : List ℕ} {ask : Ask} {index : List ℕ} {x q b d : ℕ} {path₀ : List ℕ} {counters₀ : Counters} {area₀ : List ℕ}
-    {s : StoredSet} {c₀ : Cut} {path : List ℕ} {counters : Counters} {area : List ℕ} {c : Cut}
+left_exactly : {f : List ℕ} {ask : Ask} {index : List ℕ} {x q b d : ℕ} {path₀ : List ℕ} {counters₀ : Counters}
+    {area₀ : List ℕ} {s : StoredSet} {c₀ : Cut} {path : List ℕ} {counters : Counters} {area : List ℕ} {c : Cut}
     → AtCut f ask index x q b d path₀ counters₀ area₀ s c₀ path counters area c
     → no_bit wide_words (free wide_words (wide_of c.set) (set_there s)) ≡ no_bit half c.free
 left_exactly {s = s} at = sym (done_exactly s.stored at.is_cut at.fours)

@@ -48,6 +48,7 @@ bounds-index-e c = omega (arith, few_entries _ _ c.args.fabric.now.accepted)
 
 pub returns : goal.returns
 returns c =
-    partly_more _ _ c.args.fabric.now.accepted _ _ _ (entry_read _ _ c.args.fabric.now.accepted _ c.requires.e_lt_entries _ c.entry-x.ensures)
+    partly_more _ _ c.args.fabric.now.accepted _ _ _
+    (entry_read _ _ c.args.fabric.now.accepted _ c.requires.e_lt_entries _ c.entry-x.ensures)
     _ _ _ c.out_port-out.ensures c.in_port-into.ensures c.priority-rank.ensures
     _ _ c.push.ensures c.push-2.ensures c.requires.partly

@@ -16,7 +16,8 @@ number_of_lem : (input : List ℕ) (x : ℕ) → x ≡ word_at input 0 → call_
 number_of_lem input x read = ap call_named (sym (number_below (word_at input 0)) ∙ ap (λ (y : ℕ). y % 2 ^ 31) (sym read))
 
 -- and the version read is the one marked
-marked_lem : (input : List ℕ) (x : ℕ) {w : ℕ} → x ≡ word_at input 0 → w ≡ width_marked x → width_marked (word_at input 0) ≡ w
+marked_lem : (input : List ℕ) (x : ℕ) {w : ℕ} → x ≡ word_at input 0 → w ≡ width_marked x
+    → width_marked (word_at input 0) ≡ w
 marked_lem input x read is = ap width_marked (sym read) ∙ sym is
 
 pub returns-then-input-query_bytes-clause-answers : goal.returns-then-input-query_bytes-clause-answers

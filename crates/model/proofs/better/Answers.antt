@@ -1,6 +1,6 @@
 -- `better` meets its contract: entry i is no candidate, or the first one, or outranks the best so far, or is outranked by it, or neither.
 use mathlib.Core.List.{List}
-use mathlib.Core.Path.{◌≡◌, sym, subst, ◌∙◌}
+use mathlib.Core.Path.{sym, subst, ◌∙◌}
 use Prim.Native.Nat.{ℕ, ◌<◌}
 use Rattle.layout.specs.Shape.{Shape}
 use Rattle.file.specs.Accepted.{Accepted}

@@ -1,7 +1,6 @@
 -- `is_candidate` meets its contract: by the in-port and the match that the entry's own bytes have.
 use mathlib.Core.Path.{sym, ◌∙◌}
 use native.Mathlib.Omega.{arith}
-use Rattle.layout.specs.Versions.{shape_counted}
 use Rattle.wide.proofs.Entries.{match_stored}
 use Rattle.model.proofs.EntryRead.{entry_read, bytes_long}
 use Rattle.model.proofs.Candidates.{other_port, tested}

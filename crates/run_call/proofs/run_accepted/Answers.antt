@@ -69,7 +69,8 @@ module _
         questions_told is_edge is_words is_room =
             ap₂ (λ (y : Bool) (n : ℕ). pick y n 9) is_right
             (ap₂ (λ (y : Bool) (n : ℕ). pick y n 10)
-            (ap₂ ◌&&◌ (is_tidy ∙ clean_own f s ok set fits fours) (is_all ∙ ap (λ (n : ℕ). cares_for_all n own) (sym words_known)))
+            (ap₂ ◌&&◌ (is_tidy ∙ clean_own f s ok set fits fours)
+            (is_all ∙ ap (λ (n : ℕ). cares_for_all n own) (sym words_known)))
             (ap₂ (λ (y : Bool) (n : ℕ). pick y n 11) is_edge
             (ap (λ (y : Bool). pick y 0 12)
             (is_room ∙ ap (λ (m : ℕ). leb (4 * m) (length area)) (is_words ∙ ap answer_words (sym words_known))))))

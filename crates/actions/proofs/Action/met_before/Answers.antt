@@ -1,5 +1,5 @@
 -- `Action::met_before` meets its contract: the transfer undone, and then the match; 'empty' where one of them is.
-use Rattle.std.proofs.Common.{None, Some, ◌≡◌, sym, ◌∙◌, rules}
+use Rattle.std.proofs.Common.{None, ◌≡◌, sym, ◌∙◌, rules}
 use Rattle.headers.specs.Actions.{met_before}
 use Rattle.sets.proofs.Answers.{then_set, then_empty}
 use Rattle.actions.proofs.Action.met_before.Goals as goal

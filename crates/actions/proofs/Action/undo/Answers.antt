@@ -1,5 +1,5 @@
 -- `Action::undo` meets its contract: the rewrite undone, and then the transfer for the match; 'empty' where one of them is.
-use Rattle.std.proofs.Common.{None, Some, ◌≡◌, sym, ap, ◌∙◌, rules}
+use Rattle.std.proofs.Common.{None, ◌≡◌, sym, ap, ◌∙◌, rules}
 use Rattle.sets.specs.Forms.{maybe_of}
 use Rattle.headers.proofs.Acting.{before_steps}
 use Rattle.sets.proofs.Answers.{then_set, then_empty}

@@ -1,6 +1,6 @@
 -- `intersect` meets its contract: what each half has in common; of four words the last four stay as they are.
 use Rattle.std.specs.Prelude.{None}
-use mathlib.Core.Path.{◌≡◌, sym, ap, ◌∙◌}
+use mathlib.Core.Path.{◌≡◌, ap, ◌∙◌}
 use borrow.Author.Rules.{rules}
 use Rattle.layout.specs.Versions.{header_words}
 use Rattle.wide.specs.Forms.{maybe_wide_of}

@@ -1,6 +1,6 @@
 -- `met_before` meets its contract: a transfer moves words of the first half alone.
 use Rattle.std.specs.Prelude.{None}
-use mathlib.Core.Path.{◌≡◌, sym, ap, ◌∙◌}
+use mathlib.Core.Path.{◌≡◌, ap, ◌∙◌}
 use borrow.Author.Rules.{rules}
 use Rattle.layout.specs.Versions.{header_words}
 use Rattle.wide.specs.Forms.{maybe_wide_of}
