@@ -2,7 +2,7 @@
 // that they play the events of the trace (specs/Cycle.antt). What is done with an event is in `units` and `finds`, what an entry gives in
 // `entries`, and where a part goes next in `trials`.
 // They are handed an index of the file, so that they read no entry but those of the chain in hand, and references to the caller's
-// path and counters, so that a level of the descent copies no state; they go down one by one, as a struct of them would have to be lent
+// path and counters, so that a level of the descent copies neither; they go down one by one, as a struct of them would have to be lent
 // anew at each level. What the path, its free places and the room are to each other changes at every level, so clauses say it (`Tracing`).
 #![tactic(auto)]
 
@@ -69,11 +69,18 @@ pub fn stop(
     if d <= trace.ask.floor {
         return Ok(());
     }
-    let mut next = index::first_out(trace.index, port);
+    // read once: for all that the compiler knows, counting a unit could change what stands behind a reference
+    let Trace {
+        file,
+        ask,
+        index,
+        ..
+    } = *trace;
+    let mut next = index::first_out(index, port);
     while let Some(e) = next {
-        units::unit(&trace.ask, counters)?;
-        let entry = entries::entry_at(trace.file, trace.ask.base, trace.ask.version, e);
-        next = index::next_out(trace.index, e);
+        units::unit(&ask, counters)?;
+        let entry = entries::entry_at(file, ask.base, ask.version, e);
+        next = index::next_out(index, e);
         if let Some(s) = entry.unwritten(t) {
             if entries::keeps(entry.bytes) {
                 if let Some(p) = entry.met(s) {
@@ -113,7 +120,7 @@ fn take_back(
     let least = model::least_above(records::priority(entry.bytes));
     let first = index::first_in(trace.index, port);
     push(path, d - 1, e);
-    let b = trials::next_met(trace, least, first, p, counters)?;
+    let b = trials::next_met(trace, least, first, p, counters).entry()?;
     descend(trace, area, port, least, b, p, d - 1, path, counters)
 }
 
@@ -178,11 +185,11 @@ fn carve(
         let part = cut.part(&matches);
         // the usual case: this is the last part, and nothing is read after its descent
         if cut.is_last(&matches) {
-            let k = trials::next_met(trace, least, next, part, counters)?;
+            let k = trials::next_met(trace, least, next, part, counters).entry()?;
             return descend(trace, area, port, least, k, part, d, path, counters);
         }
         cut = cut.next(&matches);
-        let k = trials::next_met(trace, least, next, part, counters)?;
+        let k = trials::next_met(trace, least, next, part, counters).entry()?;
         descend(trace, area, port, least, k, part, d, path, counters)?;
     }
     Ok(())

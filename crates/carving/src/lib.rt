@@ -22,7 +22,7 @@ use wide::WideSet;
 #[derive(Clone, Copy)]
 pub struct Cut {
     pub set: WideSet,
-    // of which half they are: `IsCut` tells the two apart
+    // of which half they are; `IsCut` tells the two apart. As two variants, each would have the same three fields.
     pub high: bool,
     pub free: [u32; 4],
     pub bit: [u32; 4],

@@ -1,7 +1,7 @@
 -- What an entry takes back to, from the code's two steps: its rewrite undone, u, and then its match met, m; with a transfer between them
 -- or without.
 use Rattle.std.specs.Prelude.{Option as Answer}
-use mathlib.Core.Bool.{true, false, false≢true}
+use mathlib.Core.Bool.{true, false≢true}
 use mathlib.Core.List.{List}
 use mathlib.Core.Option.{Option, some, none, bind}
 use mathlib.Core.Path.{◌≡◌, refl, sym, ap, ◌∙◌}

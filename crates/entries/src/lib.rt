@@ -60,7 +60,8 @@ pub fn meets(file: &[u8], base: usize, version: Version, e: usize, p: WideSet) -
     entry_at(file, base, version, e).matches().meets(p)
 }
 
-// Does an entry of these bytes neither copy nor swap addresses? By each transfer's name, so that a further one has to say it too.
+// Does an entry of these bytes neither copy nor swap addresses? It asks for the two words that it reads, so it is no method of an `Entry`.
+// By each transfer's name, so that a further one has to say it too.
 pub fn keeps(entry: &[u8]) -> bool
     requires { 8 ≤ length entry.now }
     ensures { result ≡ keeps (entry_transfer entry.now) }

@@ -5,7 +5,7 @@
 use layout::Version;
 use wide::WideSet;
 
-// The places of the path: a find's way is its entries from some place on. A path is an array of so many, as nothing is allocated.
+// The places of the path: a find's way is its entries from some place on, and an answer has room for all of them.
 pub const PLACES: usize = 16;
 
 // What is done with the finds: they are listed, or judged for the verdict.
@@ -29,7 +29,7 @@ pub struct Counters {
     pub words: u64,
 }
 
-// How a pass ended, and what it counted.
+// How a pass ended, and what it counted: by then, where it halts, too. So the counters stand beside a Result, and not in it.
 #[derive(Clone, Copy)]
 pub struct Passed {
     pub ended: Result<(), Halt>,
@@ -37,7 +37,8 @@ pub struct Passed {
 }
 
 // What a trace is asked, and what it knows of the file. The floor is 16 less the hop limit: with d places of the path free, d less this
-// many hops are left. The group is the target's, and the base is the byte at which the entries begin.
+// many hops are left. The group is the target's, and the base is the byte at which the entries begin. Clauses alone read the target: a
+// ghost field is a fact, and can't be a number.
 #[derive(Clone, Copy)]
 pub struct Ask {
     pub budget: u32,
@@ -49,8 +50,8 @@ pub struct Ask {
     pub version: Version,
 }
 
-// A find: the edge by its number, the headers, and the entries on the way from there to the target. The way is a part of the path, which
-// changes from level to level: that its entries fit is asked where they are written.
+// A find: the edge by its number, the headers, and the entries on the way from there to the target. That the way has at most 16 entries,
+// each of a file, is asked where they are written, by functions that have the way alone too.
 #[derive(Clone, Copy)]
 pub struct Find<'a> {
     pub edge: usize,

@@ -1,5 +1,5 @@
-// The calls that the runtime's host makes: document 01, "The runtime's host, in Rust, makes these calls on byte slices and numbers".
-// Each asks document 01's questions in turn, and returns place × 256 + number; after a no every lent byte is as it was.
+// The calls, of any kind, file and query: document 01's questions asked in turn. `answer` says the first no and its place, and `make`, for
+// the host, returns place × 256 + number; after a no every lent byte is as it was. `fabric_c` exports them.
 #![tactic(auto)]
 
 ghost use Rattle.std.specs.Prelude.{◌≡◌, ℕ, ◌^◌, ◌<◌};
@@ -161,7 +161,7 @@ impl AskedSet for WideSet {
     }
 }
 
-// A call on numbers, for files of the version of the asked set.
+// A call by its numbers and an asked set, for files of the version that the set has.
 pub fn make<S: AskedSet>(
     call: Call,
     file: &[u8],

@@ -67,7 +67,8 @@ pub struct LinkPorts<'a> {
 }
 
 // ---- the records of each kind, each run with how many got yeses. A record's number and its place go up by different steps, so each
-// run is a `while`. What is known of the file grows from question to question, so clauses say it (`Bounded`, its version).
+// run is a `while`. That a file is bounded and has this version is known from questions 1 and 2 to the end of the records, in these four
+// functions alone; a type for it would be taken apart again at each record, whose questions ask for less. So clauses say it.
 // A refusal gets its place by `if let`: with `map_err` it would come to the run by a closure's clauses.
 
 // The edges, from word 1 on, each numbered at its port.
@@ -293,7 +294,7 @@ impl<'a> Fabric<'a> {
     }
 }
 
-// Edge i's own bytes of an accepted file of which no more is at hand.
+// Edge i's own bytes of an accepted file whose counts are not at hand: a find has an edge's number and no more.
 pub fn edge_at<'a>(file: &'a [u8], i: usize) -> &'a [u8]
     requires { HasEdge file.now i }
     ensures { result.now ≡ edge_bytes file.now i }

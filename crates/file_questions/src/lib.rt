@@ -12,7 +12,7 @@ use records::Kind;
 
 // ---- what the version says
 
-// by the variants' names, as the limit below
+// What the file says for it: by each version's name, as the limit below, and under the definition's own name.
 fn number(v: Version) -> u32
     ensures { result ≡ version (header_words v) }
 {
@@ -32,6 +32,8 @@ fn most_bytes(v: Version) -> usize
 }
 
 // ---- the questions
+
+// Both answer as the definitions do; the reader says which refusal a no is.
 
 // Question 1: a length that is a multiple of 4 from 8 to the most of the call's version.
 pub fn sized(file: &[u8], version: Version) -> bool

@@ -95,8 +95,8 @@ fn judge(
 
 // ---- by the mode
 
-// A find is listed or judged, and the trace goes on or is over: both write to the same area and count alike, which two closures would have
-// to be lent at every find.
+// A find is listed or judged, and the trace goes on or is over. Both write to the same area, and a list counts its words, so a closure in
+// place of the mode would have to be lent both at every find.
 pub fn found(
     file: &[u8],
     ask: &Ask,

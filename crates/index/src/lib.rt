@@ -16,7 +16,8 @@ pub const UNUSED: u16 = 512;
 const FIRST_EDGE: usize = 4096;
 
 // Where the index's parts after the places begin: the first entry with an out-port, with an in-port, the next entry likewise, and an
-// entry's priority.
+// entry's priority. They are one array, so that one predicate, `Index`, says all of it; each part is read by a function of its name, whose
+// clause says its cells, where a function of a part's beginning would ask each caller for it.
 const FIRST_OUT: usize = 4096;
 
 const FIRST_IN: usize = 8192;
@@ -128,7 +129,7 @@ pub fn fill(fabric: &Fabric, index: &mut [u16; CELLS])
 
 // ---- reading the index: ports and entries are plain numbers where they come from, so each call asks that they are in range
 
-// What the cell of a place says. It promises more than a From could: that the place is formed.
+// What the cell of a place says, and that the place is formed. A From would need a relation of its own to say these two clauses.
 fn place_of(cell: u16) -> Place
     ensures value { number_of_place result ≡ cell }
     ensures formed { IsFormed result }
@@ -143,7 +144,9 @@ fn place_of(cell: u16) -> Place
     }
 }
 
-// What a cell of a chain says, and that it is no entry past the last.
+// What a cell of a chain says, and that it is no entry past the last. Inlined, so that trials test the cell: a select of the Option's
+// value would stand between one entry of the chain and the next.
+#[inline(always)]
 fn entry_of(cell: u16) -> Option<usize>
     ensures value { chain_number result ≡ cell }
     ensures entry { IsEntry result }
@@ -192,6 +195,7 @@ pub fn next_out(index: &[u16; CELLS], e: usize) -> Option<usize>
 }
 
 // The next entry with the in-port of entry e.
+#[inline(always)]
 pub fn next_in(index: &[u16; CELLS], e: usize) -> Option<usize>
     requires { e < 512 }
     ensures value { chain_number result ≡ get_or index.now (next_in + e) 0 }

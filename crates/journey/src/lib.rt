@@ -26,7 +26,7 @@ pub enum Fate {
 }
 
 impl Fate {
-    // The fate's number in an answer.
+    // The fate's number in an answer. By a name and not as a From, which would need a relation of its own to say what this equation says.
     fn number(self) -> u32
         ensures { result ≡ fate_number self }
     {
@@ -34,7 +34,8 @@ impl Fate {
     }
 }
 
-// A packet: its fate, port, header and hops made, and the entries that took it, in an array for 16 hops, as nothing is allocated.
+// A packet: its fate, port, header and hops made, and the entries that took it, in an array for 16 hops, as nothing is allocated; an answer
+// has all 16, those of no hop as 0.
 #[derive(Clone, Copy)]
 pub struct Journey {
     pub fate: Fate,
@@ -88,6 +89,7 @@ fn taken(links: &LinkPorts, j: Journey, e: usize) -> Journey
 {
     let x = links.fabric.entry(e);
     let version = links.fabric.counts.version;
+    // `entries::Entry`, which has its rewrite as a method, stands beside this crate and not below it
     let rewrite = StoredSet {
         bytes: x,
         at: records::rewrite_at(version),

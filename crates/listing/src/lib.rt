@@ -16,7 +16,7 @@ use layout::Version;
 use sets::HeaderSet;
 use wide::{WideHeader, WideSet};
 
-// The list's words: kinds 6 and 7 in bits 31..28, hops from bit 12 on.
+// The list's words: kinds 6 and 7 in bits 31..28, hops from bit 12 on. They are only written and never told apart, so they are no enum.
 const FIND: u32 = 0x6000_0000;
 
 const ENTRY: u32 = 0x7000_0000;

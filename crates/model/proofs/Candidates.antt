@@ -13,7 +13,7 @@ use Rattle.file.specs.Accepted.{Accepted}
 use Rattle.file.proofs.Accepted.{words_said}
 use Rattle.forwarding.specs.Fabric.{Fabric, in_port_of, priority_of, outranks, holds}
 use Rattle.forwarding.specs.Best.{candidate, BestSoFar}
-use Rattle.forwarding.proofs.Best.{best_skip, best_keep, best_tie, best_take, best_none, best_alone, best_several}
+use Rattle.forwarding.proofs.Best.{best_keep, best_tie, best_take, best_none, best_alone, best_several}
 use Rattle.wide.specs.Forms.{wide_words, widest, stored_at}
 use Rattle.model.specs.Model.{fabric_in, wide_in}
 use Rattle.model.specs.Taking.{Takes, AmongEntries, best_entry, is_tied, IsBest, Better}
@@ -54,12 +54,6 @@ named_below n b a (inl e) l = subst (AmongEntries n) e l
 named_below n b a (inr e) l = subst (AmongEntries n) e l
 
 module _ (F : Fabric) (x : ℕ) (h : Header) (i : ℕ) (number : i < F.entries) where
-  pub better_skip : (b : Takers) → AmongEntries F.entries b → candidate F x h i ≡ false → Better F x h i b b
-  better_skip b within d = record {
-    best_then = λ c. best_skip F x h i (best_entry F.entries b) (is_tied b) c d;
-    within = within;
-  }
-
   -- the number of entries stands for 'none'
   pub better_first : (b : Takers) → b ≡ Nobody → candidate F x h i ≡ true → Better F x h i b (One i)
   better_first b none d = rw none (record {

@@ -2,7 +2,8 @@
 // specs/Model.antt.
 #![tactic(auto)]
 
-ghost use Rattle.std.specs.Prelude.{◌≡◌, ℕ, ◌<◌, leb};
+ghost use Rattle.std.specs.Prelude.{true, ◌≡◌, ℕ, ◌<◌, leb};
+ghost use Rattle.headers.specs.Sets.{Header};
 ghost use Rattle.wide.specs.Forms.{words_of};
 ghost use Rattle.forwarding.specs.Best.{candidate};
 ghost use Rattle.forwarding.specs.Fabric.{priority_of, outranks};
@@ -53,6 +54,7 @@ fn is_candidate(fabric: &Fabric, x: u32, h: WideHeader, i: usize) -> bool
     if records::in_port(e) != x {
         return false;
     }
+    // `entries::Entry`, which has its match as a method, stands above this crate, whose model of the file it speaks of
     let matches = StoredSet {
         bytes: e,
         at: MATCH,
@@ -68,15 +70,14 @@ fn priority(fabric: &Fabric, i: usize) -> u32
     records::priority(fabric.entry(i))
 }
 
-// The highest candidates so far, with entry i, for a header h at in-port x.
-fn better(fabric: &Fabric, x: u32, h: WideHeader, i: usize, best: Takers) -> Takers
+// The highest candidates so far, with entry i, which is one too. A call, so that the search of all entries stays a short loop.
+#[inline(never)]
+fn better(fabric: &Fabric, i: usize, best: Takers) -> Takers
     requires i_lt_entries { i < fabric.now.counts.entries }
     requires best_lt_entries { AmongEntries fabric.now.counts.entries best }
-    ensures { Better (wide_in fabric.now.file.now) x (words_of h) i best result }
+    ensures { (x : ℕ) (h : Header) → candidate (wide_in fabric.now.file.now) x h i ≡ true
+        → Better (wide_in fabric.now.file.now) x h i best result }
 {
-    if !is_candidate(fabric, x, h, i) {
-        return best;
-    }
     match best {
         Takers::Nobody => Takers::One(i),
         Takers::One(at) | Takers::Several(at) => {
@@ -99,7 +100,9 @@ pub fn taker(fabric: &Fabric, x: u32, h: WideHeader) -> Takers
 {
     let mut best = Takers::Nobody;
     for i in 0..fabric.counts.entries {
-        best = better(fabric, x, h, i, best);
+        if is_candidate(fabric, x, h, i) {
+            best = better(fabric, i, best);
+        }
     }
     best
 }

@@ -25,8 +25,8 @@ fn group_at(edges: &EdgePorts, port: u32) -> u32
     records::group(edges.fabric.edge(usize::from(k - 1)))
 }
 
-// One pass back from a target, an edge port: the finds are listed or judged, as the mode says. The index is an array of the caller's, made
-// once for several passes, and the limit a number of the query's that question 9 let through, so clauses say it of both.
+// One pass back from a target, an edge port: the finds are listed or judged, as the mode says. The index is made once for several passes;
+// a type of index and fabric would leave a clause to say that its fabric is that of `edges`, so a clause says whose index it is.
 pub fn pass(
     edges: &EdgePorts,
     index: &[u16; CELLS],

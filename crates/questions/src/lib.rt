@@ -26,7 +26,7 @@ pub enum Refusal {
 }
 
 impl Refusal {
-    // The question's number.
+    // The question's number. By a name and not as a From, which would need a relation of its own to say what this equation says.
     pub fn number(self) -> u32
         ensures { result ≡ number self }
     {

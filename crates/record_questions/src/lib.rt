@@ -102,10 +102,13 @@ pub fn link_asked(
     ask(l < 256, Refusal::Limits)
 }
 
+// The end: its kind, and no bit beside it.
+const END: u32 = 0x5000_0000;
+
 // Does the end stand at this place, as the last word?
 pub fn ends_at(file: &[u8], at: usize) -> bool
     requires { at ≤ words_in file.now }
     ensures { result ≡ ends_at file.now at }
 {
-    at + 1 == file.len() / 4 && records::word(file, at) == 0x5000_0000
+    at + 1 == file.len() / 4 && records::word(file, at) == END
 }

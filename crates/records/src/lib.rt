@@ -40,6 +40,7 @@ pub enum Kind {
 }
 
 impl Kind {
+    // By a name and not as a From, which would need a relation of its own to say what this equation says.
     pub fn number(self) -> u32
         ensures { result ≡ kind_number self }
     {
@@ -204,7 +205,8 @@ pub fn part<'a>(file: &'a [u8], k: usize, n: usize) -> &'a [u8]
     &file[a..a + 4 * n]
 }
 
-// ---- the fields of an entry's own bytes: each asks for the two words alone that they stand in, and so do those of an edge
+// ---- the fields of an entry's own bytes: each asks for the two words alone that they stand in, and those of an edge for one, so that
+// whoever has the bytes can read them, with or without an `entries::Entry`
 
 pub fn priority(entry: &[u8]) -> u32
     requires { 8 ≤ length entry.now }
@@ -227,7 +229,8 @@ pub fn out_port(entry: &[u8]) -> u32
     port_of(word(entry, 1))
 }
 
-// The transfer with this number. Question 3 asks whether there is one; here every number has its transfer, so this is no TryFrom.
+// The transfer with this number. Question 3 asks whether there is one; here every number has its transfer, as in the definition, under
+// whose name it stands.
 fn transfer_at(number: u32) -> Transfer
     ensures { result ≡ transfer_at number }
 {

@@ -26,6 +26,11 @@ ending_number : (o : Option ℕ) → number_of (ending_at o) ≡ chain_number o
 ending_number None = refl
 ending_number (Some b) = refl
 
+-- what the code's ending says is what trials answer
+pub told : {after : Tried} {counters₀ counters : Counters} {said r : Result (Option ℕ) Halt} → NextMet after counters₀ said counters
+    → r ≡ said → NextMet after counters₀ r counters
+told n e = record { ending_is = e ∙ n.ending_is; units_are = n.units_are; words_stay = n.words_stay }
+
 module _ (f : Fabric) (p : Set) (budget x q : ℕ) where
   -- an entry from j on that the part meets
   pub record MetFrom (j b : ℕ) : Type 0 where

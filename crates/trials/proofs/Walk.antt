@@ -57,16 +57,6 @@ module _ {T : Type 0} {ask : Ask} {counters₀ counters : Counters} where
       go false (Ok x) e h = let z : ◌≡◌ {A = ℕ} 0 1 = ap (λ (p : Played). p.status) h in absurd (omega arith)
       go false (Err Reached) e h = let z : ◌≡◌ {A = ℕ} 2 1 = ap (λ (p : Played). p.status) h in absurd (omega arith)
 
-  -- a unit that isn't made says that the budget is used
-  pub unit_halts : {h : Halt} → UnitMade {T = T} ask counters₀ (Err h) counters → h ≡ BudgetUsed
-  unfolding make_unit
-  unit_halts {h} u = go (ltb counters₀.made ask.budget) h (u.played [])
-    where
-      go : (t : Bool) (h : Halt) → played_of {T = T} (Err h) counters [] ≡ unit_made t (world_of counters₀ []) → h ≡ BudgetUsed
-      go t BudgetUsed e = refl
-      go true Reached e = let z : ◌≡◌ {A = ℕ} 2 0 = ap (λ (p : Played). p.status) e in absurd (omega arith)
-      go false Reached e = let z : ◌≡◌ {A = ℕ} 2 1 = ap (λ (p : Played). p.status) e in absurd (omega arith)
-
 -- ---- come to entry b of the chain, or to its end
 
 pub record AtTrial (f : Fabric) (budget q j : ℕ) (p : Set) (counters₀ : Counters) (b : Option ℕ) (counters : Counters)
@@ -76,9 +66,9 @@ pub record AtTrial (f : Fabric) (budget q j : ℕ) (p : Set) (counters₀ : Coun
   pub words_stay : counters.words ≡ counters₀.words
   pub left : trials_from f budget q (chain_number b) p counters.made ≡ trials_from f budget q j p counters₀.made
 
-pub first_trial : {f : Fabric} {budget q : ℕ} {p : Set} {j : Option ℕ} {counters : Counters} → OfChain f.entries (chain_number j)
-    → IsEntry j → AtTrial f budget q (chain_number j) p counters j counters
-first_trial o i = record { of_chain = o; is_entry = i; words_stay = refl; left = refl }
+pub first_trial : {f : Fabric} {budget q : ℕ} {p : Set} {j b : Option ℕ} {counters : Counters} → OfChain f.entries (chain_number j)
+    → IsEntry j → j ≡ b → AtTrial f budget q (chain_number j) p counters b counters
+first_trial o i is = rw (sym is) (record { of_chain = o; is_entry = i; words_stay = refl; left = refl })
 
 -- the chain ends
 pub walk_ends : {f : Fabric} {budget q j : ℕ} {p : Set} {counters₀ counters : Counters} → f.entries ≤ no_entry

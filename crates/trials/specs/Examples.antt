@@ -1,7 +1,8 @@
 -- Trials, computed: entries 4, 9, 2 and 7, of which the part meets 9 and 7.
 use Rattle.std.specs.Prelude.{Bool, List, [], ◌∷◌, ◌≡◌, refl, ℕ, ltb, Some, None, Ok, Err}
 use Rattle.events.specs.declared.Halt.TheVariants.{BudgetUsed}
-use Rattle.trials.specs.Trials.{met, past, used, number_of, answer_of, ending_at, tried, trials_of}
+use Rattle.trials.specs.Trials.{met, past, used, number_of, ending_said, answer_of, ending_at, tried, trials_of}
+use Rattle.trials.specs.declared.Ending.TheVariants as Endings
 
 abbrev few : List ℕ
 few = 4 ∷ 9 ∷ 2 ∷ 7 ∷ []
@@ -37,7 +38,16 @@ two_trials : trials_of large few ≡ 2
 unfolding trials_of
 two_trials = refl
 
--- each ending has its own answer, and what the code answers is the ending's
+-- each ending has its own name in the code and its own answer
+said_met : ending_said (Endings.Met 9) ≡ met 9
+said_met = refl
+
+said_past : ending_said Endings.Past ≡ past
+said_past = refl
+
+said_used : ending_said Endings.Used ≡ used
+said_used = refl
+
 the_met : answer_of (met 9) ≡ Ok (Some 9)
 the_met = refl
 

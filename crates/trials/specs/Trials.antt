@@ -10,6 +10,8 @@ use Rattle.entries.specs.Entries.{chained}
 use Rattle.events.specs.declared.Counters.{Counters}
 use Rattle.events.specs.declared.Halt.{Halt}
 use Rattle.events.specs.declared.Halt.TheVariants.{BudgetUsed}
+use Rattle.trials.specs.declared.Ending as Declared
+use Rattle.trials.specs.declared.Ending.TheVariants as Endings
 
 -- how trials end: at the entry that the part meets, past the last entry, or where the budget has no unit for the next trial
 pub data Ending : Type 0 where
@@ -22,6 +24,12 @@ abbrev pub number_of : Ending → ℕ
 number_of (met b) = b
 number_of past = no_entry
 number_of used = suc no_entry
+
+-- the ending that the code's says
+abbrev pub ending_said : Declared.Ending → Ending
+ending_said (Endings.Met b) = met b
+ending_said Endings.Past = past
+ending_said Endings.Used = used
 
 -- what the code answers for each: the entry, that there is none, or why the trace ends
 abbrev pub answer_of : Ending → Result (Option ℕ) Halt

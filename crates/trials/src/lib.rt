@@ -9,7 +9,7 @@ ghost use Rattle.index.specs.Index.{Index};
 ghost use Rattle.index.specs.Places.{chain_number, IsEntry};
 ghost use Rattle.entries.specs.Entries.{OfChain};
 ghost use Rattle.events.specs.Asked.{Asked, Asked-prop, budget_of};
-ghost use Rattle.trials.specs.Trials.{trials_from, NextMet};
+ghost use Rattle.trials.specs.Trials.{ending_said, answer_of, trials_from, NextMet};
 
 use events::{Ask, Counters, Halt};
 use index::CELLS;
@@ -26,6 +26,29 @@ pub struct Trace<'a> {
     pub ghost indexed: { Index file.now index.now },
 }
 
+// How trials end: at the entry that the part meets, past the last one, or where the budget has no unit for the next. It comes back in
+// registers; a Result of an Option itself goes through memory, and misses a bar of speed that this meets (docs/DESIGN-PASS.md).
+#[derive(Clone, Copy)]
+pub enum Ending {
+    Met(usize),
+    Past,
+    Used,
+}
+
+impl Ending {
+    // The entry that is met, if there is one; or that the trace ends.
+    #[inline(always)]
+    pub fn entry(self) -> Result<Option<usize>, Halt>
+        ensures { result ≡ answer_of (ending_said self) }
+    {
+        match self {
+            Ending::Met(b) => Ok(Some(b)),
+            Ending::Past => Ok(None),
+            Ending::Used => Err(Halt::BudgetUsed),
+        }
+    }
+}
+
 // The trials of `next_met`, in a file of this version.
 fn tried(
     trace: &Trace,
@@ -34,25 +57,39 @@ fn tried(
     j: Option<usize>,
     p: WideSet,
     counters: &mut Counters,
-) -> Result<Option<usize>, Halt>
+) -> Ending
     requires own_version { version ≡ trace.now.ask.version }
     requires of_chain { OfChain (fabric_in trace.now.file.now).entries (chain_number j) }
     requires entry { IsEntry j }
     ensures { NextMet
         (trials_from (wide_in trace.now.file.now) (budget_of trace.now.ask) least (chain_number j) (wide_of p) counters.old.made)
-        counters.old result counters.new }
+        counters.old (answer_of (ending_said result)) counters.new }
 {
-    let mut next = j;
-    while let Some(b) = next {
-        if least <= index::rank(trace.index, b) {
-            units::unit(&trace.ask, counters)?;
-            if entries::meets(trace.file, trace.ask.base, version, b, p) {
-                return Ok(Some(b));
+    // read once: for all that the compiler knows, counting a unit could change what stands behind a reference
+    let Trace {
+        file,
+        ask,
+        index,
+        ..
+    } = *trace;
+    let Some(mut b) = j else {
+        return Ending::Past;
+    };
+    // no `while let`: with the test where the next entry is read, the compiler tests the cell (`index::next_in`), which is a tenth faster
+    loop {
+        if least <= index::rank(index, b) {
+            if units::unit(&ask, counters).is_err() {
+                return Ending::Used;
+            }
+            if entries::meets(file, ask.base, version, b, p) {
+                return Ending::Met(b);
             }
         }
-        next = index::next_in(trace.index, b);
+        let Some(next) = index::next_in(index, b) else {
+            return Ending::Past;
+        };
+        b = next;
     }
-    Ok(None)
 }
 
 // The first entry that p meets, of those at the in-port of entry j, from j on, of this priority or higher; a unit for each one tried.
@@ -62,12 +99,12 @@ pub fn next_met(
     j: Option<usize>,
     p: WideSet,
     counters: &mut Counters,
-) -> Result<Option<usize>, Halt>
+) -> Ending
     requires of_chain { OfChain (fabric_in trace.now.file.now).entries (chain_number j) }
     requires entry { IsEntry j }
     ensures { NextMet
         (trials_from (wide_in trace.now.file.now) (budget_of trace.now.ask) least (chain_number j) (wide_of p) counters.old.made)
-        counters.old result counters.new }
+        counters.old (answer_of (ending_said result)) counters.new }
 {
     // a version that the compiler knows is faster
     match trace.ask.version {

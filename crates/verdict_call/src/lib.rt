@@ -1,5 +1,5 @@
-// Document 01's verdict on an accepted fabric: questions 8 to 13, and the answer. It returns the words of its answer, or the first question
-// that got a no; after a no every lent byte is as it was.
+// Document 01's verdict on an accepted fabric: questions 8 to 13 but for a run's question 11, and the answer. It returns the words of its
+// answer, or the first question that got a no; after a no every lent byte is as it was.
 #![tactic(auto)]
 
 ghost use Rattle.std.specs.Prelude.{◌≡◌, ◌*◌, ◌≤◌, length, ◌^◌, ◌<◌};
@@ -24,13 +24,14 @@ fn put_isolated(area: &mut [u8], version: Version, units: u32)
     requires { 4 * answer_words (header_words version) ≤ length area.old }
     ensures { area.new ≡ written_at 0 (verdict_words (header_words version) (isolated units)) area.old }
 {
+    // as many as the longer answer has, in an array of a fixed length, as nothing is allocated
     let mut words = [0u32; 28];
     words[1] = units;
     let n = answer_words(version);
     answer::put_words(area, 0, &words[..n]);
 }
 
-// The verdict on an accepted file, after questions 8 to 12.
+// The verdict on an accepted file.
 pub fn verdict_accepted(edges: &EdgePorts, area: &mut [u8], query: Query) -> Result<u64, Refusal>
     requires { Fits (header_words edges.now.fabric.counts.version) (wide_of query.asked) }
     ensures answers { outcome (code_of result) area.new ≡ verdict_answer edges.now.fabric.file.now

@@ -28,6 +28,7 @@ use Rattle.events.specs.declared.Ask.{Ask}
 use Rattle.events.specs.declared.Counters.{Counters}
 use Rattle.events.proofs.Ways.{hops_are}
 use Rattle.trials.specs.Trials.{Met, NextMet, trials_from}
+use Rattle.trials.proofs.Found.{told}
 use Rattle.trials.specs.declared.Trace.{Trace}
 use Rattle.backtrace.specs.Cycle.{Tracing, Ended}
 use Rattle.backtrace.proofs.Tracings.{InHand, after_unit}
@@ -98,31 +99,34 @@ carve-next_met-requires-clause-of_chain t c =
 
 pub carve-returns-in_err-k-clause-traced : goal.carve-returns-in_err-k-clause-traced
 carve-returns-in_err-k-clause-traced t c =
+    let n = told c.next_met.ensures c.in_err-k.ensures in
     let along = after_entry c.args.trace.now c.requires.met c.next_in-next.result c.next_in-next.ensures.value in
     let at = c.loop-matches.invariant in
     let said : c.from_residual.result ≡ Err c.in_err-k.field-0.0 = search rules in
     rw said (cut_traced _ _ _ _ _ (ap wide_of c.first-cut.ensures.set_value)
     (part_stops at.at_part (left_exactly at ∙ sym c.is_done.ensures ∙ c.loop-matches-test.true) c.part-part.ensures
-    (part_halted at.at_part.in_hand _ c.args.least (wide_of c.part-part.result) along c.in_err-k.ensures _ _) refl))
+    (part_halted at.at_part.in_hand _ c.args.least (wide_of c.part-part.result) along n _ _) refl))
 
 pub carve-descend-requires : goal.carve-descend-requires
 carve-descend-requires t c =
+    let n = told c.next_met.ensures c.in_ok-k.ensures in
     let along = after_entry c.args.trace.now c.requires.met c.next_in-next.result c.next_in-next.ensures.value in
     let few = entries_few c.args.trace.now.asked.fabric in
     let hand = c.loop-matches.invariant.at_part.in_hand in
     let later = part_later hand _ c.args.least (wide_of c.part-part.result) along
-    c.in_ok-k.ensures (omega (arith, c.requires.met.is_entry)) in (
+    n (omega (arith, c.requires.met.is_entry)) in (
       omega (arith, c.decreases, c.requires.met.is_entry),
-      ended_at hand c.args.least (wide_of c.part-part.result) along c.in_ok-k.ensures c.requires.port_bound,
+      ended_at hand c.args.least (wide_of c.part-part.result) along n c.requires.port_bound,
     )
 
 pub carve-returns-then-is_last-clause-traced : goal.carve-returns-then-is_last-clause-traced
 carve-returns-then-is_last-clause-traced t c =
+    let n = told c.next_met.ensures c.in_ok-k.ensures in
     let along = after_entry c.args.trace.now c.requires.met c.next_in-next.result c.next_in-next.ensures.value in
     let at = c.loop-matches.invariant in
     cut_traced _ _ _ _ _ (ap wide_of c.first-cut.ensures.set_value)
     (part_last at.at_part (left_exactly at ∙ sym c.is_done.ensures ∙ c.loop-matches-test.true) c.part-part.ensures
-    (part_traced at.at_part.in_hand _ c.args.least (wide_of c.part-part.result) along c.in_ok-k.ensures _ _ c.descend.ensures.traced)
+    (part_traced at.at_part.in_hand _ c.args.least (wide_of c.part-part.result) along n _ _ c.descend.ensures.traced)
     (sym c.is_last.ensures ∙ c.if-is_last.true))
 
 pub carve-next_met-requires-in-loop-matches-clause-of_chain :
@@ -132,22 +136,24 @@ carve-next_met-requires-in-loop-matches-clause-of_chain t c =
 
 pub carve-returns-in_err-k-2-clause-traced : goal.carve-returns-in_err-k-2-clause-traced
 carve-returns-in_err-k-2-clause-traced t c =
+    let n = told c.next_met-in-loop-matches.ensures c.in_err-k-2.ensures in
     let along = after_entry c.args.trace.now c.requires.met c.next_in-next.result c.next_in-next.ensures.value in
     let at = c.loop-matches.invariant in
     let said : c.from_residual-in_err-k-2.result ≡ Err c.in_err-k-2.field-0.0 = search rules in
     rw said (cut_traced _ _ _ _ _ (ap wide_of c.first-cut.ensures.set_value)
     (part_stops at.at_part (left_exactly at ∙ sym c.is_done.ensures ∙ c.loop-matches-test.true) c.part-part.ensures
-    (part_halted at.at_part.in_hand _ c.args.least (wide_of c.part-part.result) along c.in_err-k-2.ensures _ _) refl))
+    (part_halted at.at_part.in_hand _ c.args.least (wide_of c.part-part.result) along n _ _) refl))
 
 pub carve-descend-requires-in-loop-matches : goal.carve-descend-requires-in-loop-matches
 carve-descend-requires-in-loop-matches t c =
+    let n = told c.next_met-in-loop-matches.ensures c.in_ok-k-2.ensures in
     let along = after_entry c.args.trace.now c.requires.met c.next_in-next.result c.next_in-next.ensures.value in
     let few = entries_few c.args.trace.now.asked.fabric in
     let hand = c.loop-matches.invariant.at_part.in_hand in
     let later = part_later hand _ c.args.least (wide_of c.part-part.result) along
-    c.in_ok-k-2.ensures (omega (arith, c.requires.met.is_entry)) in (
+    n (omega (arith, c.requires.met.is_entry)) in (
       omega (arith, c.decreases, c.requires.met.is_entry),
-      ended_at hand c.args.least (wide_of c.part-part.result) along c.in_ok-k-2.ensures c.requires.port_bound,
+      ended_at hand c.args.least (wide_of c.part-part.result) along n c.requires.port_bound,
     )
 
 pub carve-loop-matches-smaller : goal.carve-loop-matches-smaller
@@ -157,11 +163,12 @@ carve-loop-matches-smaller t c =
 
 pub carve-loop-matches-preserved : goal.carve-loop-matches-preserved
 carve-loop-matches-preserved t c =
+    let n = told c.next_met-in-loop-matches.ensures c.in_ok-k-2.ensures in
     let along = after_entry c.args.trace.now c.requires.met c.next_in-next.result c.next_in-next.ensures.value in
     let at = c.loop-matches.invariant in
     record {
       at_part = part_through at.at_part (left_exactly at ∙ sym c.is_done.ensures ∙ c.loop-matches-test.true) c.part-part.ensures
-          (part_traced at.at_part.in_hand _ c.args.least (wide_of c.part-part.result) along c.in_ok-k-2.ensures _ _
+          (part_traced at.at_part.in_hand _ c.args.least (wide_of c.part-part.result) along n _ _
           c.in_ok-descend.ensures.traced)
           refl c.in_ok-descend.ensures.kept c.descend-in-loop-matches.auto.area c.next-cut.ensures.set_value;
       is_cut = c.next-cut.ensures.cut_2;
@@ -170,12 +177,13 @@ carve-loop-matches-preserved t c =
 
 pub carve-returns-in_err-descend-clause-traced : goal.carve-returns-in_err-descend-clause-traced
 carve-returns-in_err-descend-clause-traced t c =
+    let n = told c.next_met-in-loop-matches.ensures c.in_ok-k-2.ensures in
     let along = after_entry c.args.trace.now c.requires.met c.next_in-next.result c.next_in-next.ensures.value in
     let at = c.loop-matches.invariant in
     let said : c.from_residual-in_err-descend.result ≡ Err c.in_err-descend.field-0.0 = search rules in
     rw said (cut_traced _ _ _ _ _ (ap wide_of c.first-cut.ensures.set_value)
     (part_stops at.at_part (left_exactly at ∙ sym c.is_done.ensures ∙ c.loop-matches-test.true) c.part-part.ensures
-    (part_traced at.at_part.in_hand _ c.args.least (wide_of c.part-part.result) along c.in_ok-k-2.ensures _ _
+    (part_traced at.at_part.in_hand _ c.args.least (wide_of c.part-part.result) along n _ _
     c.in_err-descend.ensures.traced) refl))
 
 pub carve-returns-clause-traced : goal.carve-returns-clause-traced
@@ -369,6 +377,7 @@ take_back-next_met-requires-clause-of_chain t c =
 
 pub take_back-returns-in_err-b-clause-traced : goal.take_back-returns-in_err-b-clause-traced
 take_back-returns-in_err-b-clause-traced t c =
+    let n = told c.next_met.ensures c.in_err-b.ensures in
     let hand = in_hand c.args.trace.now c.requires.tracing in
     let i = c.requires.is_entry in
     let hop = c.requires.hop_left in
@@ -376,28 +385,30 @@ take_back-returns-in_err-b-clause-traced t c =
     let said : c.from_residual.result ≡ Err c.in_err-b.field-0.0 = search rules in
     rw said (took_back hand hop i c.push.ensures c.in_port-port.ensures _
     (λ p. c.least_above-least.ensures p ∙ ap (outranks p) c.priority.ensures) _ _
-    (part_halted (with_entry hand hop i c.push.ensures) _ c.least_above-least.result (wide_of c.args.p) along c.in_err-b.ensures _ _))
+    (part_halted (with_entry hand hop i c.push.ensures) _ c.least_above-least.result (wide_of c.args.p) along n _ _))
 
 pub take_back-descend-requires : goal.take_back-descend-requires
 take_back-descend-requires t c =
+    let n = told c.next_met.ensures c.in_ok-b.ensures in
     let hand = in_hand c.args.trace.now c.requires.tracing in
     let i = c.requires.is_entry in
     let hop = c.requires.hop_left in
     let along = head_of hand hop i (omega (arith, c.in_port-port.ensures)) c.first_in-first.ensures.value in (
       omega (arith, c.decreases, hop),
-      ended_at (with_entry hand hop i c.push.ensures) c.least_above-least.result (wide_of c.args.p) along c.in_ok-b.ensures
+      ended_at (with_entry hand hop i c.push.ensures) c.least_above-least.result (wide_of c.args.p) along n
           (omega (arith, c.in_port-port.ensures)),
     )
 
 pub take_back-returns-clause-traced : goal.take_back-returns-clause-traced
 take_back-returns-clause-traced t c =
+    let n = told c.next_met.ensures c.in_ok-b.ensures in
     let hand = in_hand c.args.trace.now c.requires.tracing in
     let i = c.requires.is_entry in
     let hop = c.requires.hop_left in
     let along = head_of hand hop i (omega (arith, c.in_port-port.ensures)) c.first_in-first.ensures.value in
     took_back hand hop i c.push.ensures c.in_port-port.ensures _
     (λ p. c.least_above-least.ensures p ∙ ap (outranks p) c.priority.ensures) _ _
-    (part_traced (with_entry hand hop i c.push.ensures) _ c.least_above-least.result (wide_of c.args.p) along c.in_ok-b.ensures _ _
+    (part_traced (with_entry hand hop i c.push.ensures) _ c.least_above-least.result (wide_of c.args.p) along n _ _
     c.descend.ensures.traced)
 
 pub take_back-returns-clause-kept : goal.take_back-returns-clause-kept
