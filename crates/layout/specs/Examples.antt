@@ -8,6 +8,8 @@ use Rattle.layout.specs.Records.{from_of_link, to_of_link, place_of}
 use Rattle.layout.specs.Records.{entry_words, entry_priority, entry_in, entry_out, entry_match, entry_rewrite, entry_action, transfer_at}
 use Rattle.layout.specs.Records.{entry_bytes, in_of_entry}
 use Rattle.layout.specs.Limits.{most_entries, most_bytes, most_words}
+use Rattle.layout.specs.Versions.{header_words}
+use Rattle.layout.specs.declared.Version.TheVariants.{One, Two}
 
 -- F1: the lowest byte first
 little_endian : word_at (0x78 ∷ 0x56 ∷ 0x34 ∷ 0x12 ∷ 0xef ∷ 0xcd ∷ 0xab ∷ 0x90 ∷ []) 1 ≡ 0x90abcdef
@@ -147,6 +149,11 @@ own_bytes w f =
 own_bytes_lem : (own_bytes 4 (a_file 1 8) ++ own_bytes 8 (a_file 2 16)) ≡ 9 ∷ 36 ∷ 0x321 ∷ 72 ∷ 9 ∷ 68 ∷ 0x321 ∷ 136 ∷ []
 unfolding word_at bytes_from width_in
 own_bytes_lem = refl
+
+-- ---- the words of a header, by the version
+
+by_version : (header_words One ∷ header_words Two ∷ []) ≡ 4 ∷ 8 ∷ []
+by_version = refl
 
 -- ---- F11, F12: the limits, and how long a file they allow
 

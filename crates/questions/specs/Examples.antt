@@ -4,6 +4,8 @@ use Rattle.std.specs.Prelude.{Bool, true, false, ◌&&◌, [], ◌∷◌, ◌++�
 use Rattle.headers.specs.Sets.{Set}
 use Rattle.layout.specs.Words.{word_at}
 use Rattle.layout.specs.Records.{width_in}
+use Rattle.questions.specs.Refusals.{number}
+use Rattle.questions.specs.declared.Refusal.TheVariants as Refusals
 use Rattle.questions.specs.Questions.{sized, started, after_start, zero_bits, transfer_known, clean, clean_high, within_limits}
 
 -- ---- Q1, the length
@@ -128,3 +130,13 @@ in_port_64 : (after 1 0x40 64 256 63 100 ∷ after 1 0x40 64 256 64 100 ∷ afte
     ≡ true ∷ false ∷ true ∷ false ∷ []
 unfolding within_limits word_at width_in
 in_port_64 = refl
+
+-- ---- the refusals, by the numbers of their questions
+
+numbers_of_a_file : (number Refusals.Size ∷ number Refusals.Start ∷ number Refusals.Order ∷ number Refusals.Ports ∷
+    number Refusals.Tidiness ∷ number Refusals.Ends ∷ number Refusals.Limits ∷ []) ≡ 1 ∷ 2 ∷ 3 ∷ 4 ∷ 5 ∷ 6 ∷ 7 ∷ []
+numbers_of_a_file = refl
+
+numbers_of_a_query : (number Refusals.Target ∷ number Refusals.HopLimit ∷ number Refusals.AskedSet ∷ number Refusals.StartPort ∷
+    number Refusals.Room ∷ number Refusals.Budget ∷ number Refusals.Input ∷ []) ≡ 8 ∷ 9 ∷ 10 ∷ 11 ∷ 12 ∷ 13 ∷ 14 ∷ []
+numbers_of_a_query = refl
