@@ -7,19 +7,16 @@ ghost use Rattle.layout.specs.Versions.{header_words};
 ghost use Rattle.questions.specs.Questions.{version, sized, started};
 ghost use Rattle.questions.specs.Reading.{Bounded};
 
-use layout::Version;
+use layout::{HALF, Version};
 use records::Kind;
 
 // ---- what the version says
 
-// What the file says for it: by each version's name, as the limit below, and under the definition's own name.
-fn number(v: Version) -> u32
-    ensures { result ≡ version (header_words v) }
+// What a file with headers of hw words says for its version.
+fn number(hw: usize) -> u32
+    ensures { result ≡ version hw }
 {
-    match v {
-        Version::One => 1,
-        Version::Two => 2,
-    }
+    if hw == HALF { 1 } else { 2 }
 }
 
 fn most_bytes(v: Version) -> usize
@@ -48,9 +45,17 @@ pub fn started(file: &[u8], version: Version) -> bool
     requires { Bounded file.now }
     ensures { result ≡ started (header_words version) file.now }
 {
+    started_in(file, version.words())
+}
+
+// The same by the words of a header, and of any number of them, as the definition has it.
+pub fn started_in(file: &[u8], hw: usize) -> bool
+    requires { Bounded file.now }
+    ensures { result ≡ started hw file.now }
+{
     let w = records::word(file, 0);
     let count = records::count_of(w) as usize;
     records::is_kind(w, Kind::Start)
-        & (records::version_of(w) == number(version))
+        & (records::version_of(w) == number(hw))
         & (count == file.len() / 4)
 }

@@ -14,7 +14,8 @@ ghost use Rattle.wide.specs.Forms.{wide_words, wide_of, maybe_wide_of, stored_at
 ghost use Rattle.file.specs.Accepted.{HasEdge};
 ghost use Rattle.model.specs.Model.{wide_in};
 ghost use Rattle.events.specs.Play.{reached_words, judged};
-ghost use Rattle.events.specs.Asked.{Asked, Way, Room, EdgeLong, budget_of, world_of, played_of, found_by, find_at};
+ghost use Rattle.events.specs.Asked.{Asked, Way, Room, EdgeLong, budget_of, world_of, played_of, mode_number, by_mode, found_by};
+ghost use Rattle.events.specs.Asked.{find_at};
 
 use events::{Ask, Counters, Find, Halt, Mode, PLACES};
 use layout::Version;
@@ -94,6 +95,13 @@ fn judge(
 }
 
 // ---- by the mode
+
+// The mode that a number says: 3 judges, and every other lists.
+pub fn mode_said(number: u32) -> Mode
+    ensures { by_mode (mode_number result) ≡ by_mode number }
+{
+    if number == 3 { Mode::Judge } else { Mode::List }
+}
 
 // A find is listed or judged, and the trace goes on or is over. Both write to the same area, and a list counts its words, so a closure in
 // place of the mode would have to be lent both at every find.

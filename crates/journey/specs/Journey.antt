@@ -30,9 +30,13 @@ pub record IsJourney (F : Fabric) (p : Packet) (j : Journey) : Type 0 where
   pub header : words_of j.header ≡ header_of p
   pub entries : j.entries ≡ sixteen (entries_taken p)
 
--- the words of a run's answer, of headers of n words
+-- the words of a run's answer with this number for the fate, of headers of n words
+abbrev pub fated_words : ℕ → ℕ → Journey → List ℕ
+fated_words n fate j = fate ∷ 0 ∷ j.port ∷ j.hops ∷ (take n (words_of j.header) ++ j.entries)
+
+-- with the fate's own
 abbrev pub journey_words : ℕ → Journey → List ℕ
-journey_words n j = fate_number j.fate ∷ 0 ∷ j.port ∷ j.hops ∷ (take n (words_of j.header) ++ j.entries)
+journey_words n j = fated_words n (fate_number j.fate) j
 
 -- if j is a packet that made fewer than 16 hops, r is that packet after one more
 pub record Hopped (F : Fabric) (j r : Journey) : Type 0 where

@@ -7,7 +7,7 @@ ghost use Rattle.layout.specs.Versions.{header_words};
 ghost use Rattle.wide.specs.Forms.{words_of};
 ghost use Rattle.forwarding.specs.Run.{takers, miss_fate, run};
 ghost use Rattle.model.specs.Model.{fabric_in, wide_in};
-ghost use Rattle.journey.specs.Journey.{fate_number, IsJourney, journey_words, Hopped};
+ghost use Rattle.journey.specs.Journey.{fate_number, IsJourney, journey_words, fated_words, Hopped};
 
 use file::{Fabric, LinkPorts};
 use layout::Version;
@@ -156,7 +156,16 @@ pub fn put(area: &mut [u8], version: Version, j: Journey)
     requires hops_bound { j.hops ≤ 16 }
     ensures { area.new ≡ written_at 0 (journey_words (header_words version) j) area.old }
 {
-    answer::put_words(area, 0, &[j.fate.number(), 0, j.port, j.hops as u32]);
+    put_fated(area, version, j.fate.number(), j);
+}
+
+// The same with another number for the fate: any that word 0 is to hold.
+pub fn put_fated(area: &mut [u8], version: Version, fate: u32, j: Journey)
+    requires in_bounds { 4 * answer_words (header_words version) ≤ length area.old }
+    requires hops_bound { j.hops ≤ 16 }
+    ensures { area.new ≡ written_at 0 (fated_words (header_words version) fate j) area.old }
+{
+    answer::put_words(area, 0, &[fate, 0, j.port, j.hops as u32]);
     answer::put_header(area, 4, version, j.header);
     answer::put_words(area, 4 + version.words(), &j.entries);
 }

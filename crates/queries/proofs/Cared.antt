@@ -17,11 +17,11 @@ use Rattle.layout.specs.declared.Version.TheVariants.{One, Two}
 use Rattle.queries.specs.Queries.{all_bits}
 
 -- four words from word k on of a care mask
-abbrev cared_from : ℕ → List ℕ → Bool
+abbrev pub cared_from : ℕ → List ℕ → Bool
 cared_from k l = every half (λ v. eqb (word l v) (all_bits (k + v)))
 
 -- the first n words
-abbrev cared : ℕ → List ℕ → Bool
+abbrev pub cared : ℕ → List ℕ → Bool
 cared n l = every n (λ w. eqb (word l w) (all_bits w))
 
 -- four words, one after the other
@@ -42,10 +42,10 @@ four (a ∷ b ∷ c ∷ d ∷ []) long k =
 four (a ∷ b ∷ c ∷ d ∷ e ∷ l) long k = absurd (omega arith)
 
 module _ (low high : List ℕ) (first : length low ≡ half) where
-  cared_four : cared_from 0 low ≡ cared half (take half (low ++ high))
+  pub cared_four : cared_from 0 low ≡ cared half (take half (low ++ high))
   cared_four = ap (cared half) (sym (take_at low high half first))
 
-  cared_eight : length high ≡ half → (cared_from 0 low && cared_from half high) ≡ cared 8 (take 8 (low ++ high))
+  pub cared_eight : length high ≡ half → (cared_from 0 low && cared_from half high) ≡ cared 8 (take 8 (low ++ high))
   cared_eight last =
       let all : length (low ++ high) ≤ 8 = omega (arith, length-append low high) in
       sym (every_beside half half _ _ _

@@ -19,11 +19,18 @@ use sets::HeaderSet;
 
 // ---- questions in turn
 
+// What a question gives, whatever that is: what comes later if it got a yes, else its no.
+pub fn in_turn<T: Copy>(yes: bool, later: T, no: T) -> T
+    ensures { result ≡ pick yes later no }
+{
+    if yes { later } else { no }
+}
+
 // A question that got a yes, or its refusal.
 pub fn ask(yes: bool, refusal: Refusal) -> Result<(), Refusal>
     ensures { number_in result ≡ pick yes 0 (number refusal) }
 {
-    if yes { Ok(()) } else { Err(refusal) }
+    in_turn(yes, Ok(()), Err(refusal))
 }
 
 // ---- questions 3 to 7 of one record

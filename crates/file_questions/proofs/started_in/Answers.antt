@@ -1,7 +1,7 @@
 -- The code asks what `started` says, of the word that it read.
 use mathlib.Core.Path.{refl}
 use Rattle.questions.proofs.Asked as asked
-use Rattle.file_questions.proofs.started.Goals as goal
+use Rattle.file_questions.proofs.started_in.Goals as goal
 
 pub returns : goal.returns
 returns c =
