@@ -37,7 +37,7 @@ use Rattle.backtrace.specs.Cycle.{Traced, Kept, events_at, taken_back}
 use Rattle.backtrace.proofs.Places.{port_events}
 use Rattle.backtrace.proofs.Steps.{run, play_find, play_on, play_ended, unit_goes_on, unit_ends}
 use Rattle.backtrace.proofs.Paths.{kept_same, kept_on}
-use Rattle.backtrace.proofs.Tracings.{InHand, after_unit, after_call}
+use Rattle.backtrace.proofs.Tracings.{InHand, after_unit, on_kept, after_call}
 
 -- ---- where no entry is taken up
 
@@ -241,17 +241,18 @@ module _ {f : List ℕ} {ask : Ask} {index : List ℕ} {place : ℕ} {t : Set} {
           ∙ ap (λ (es : List Event). run f ask es counters area) (sym left_is)
           ∙ x.left
 
-      -- it takes nothing back
+      -- it takes nothing back; it may stand on the path already
       pub entry_empty : o ≡ none → {next : std.Option ℕ} → chain_number next ≡ get_or index (next_out + e) 0 → IsEntry next
-          → AtNext f ask index place t d path₀ counters₀ area₀ next path counters₁ area
+          → {path₁ : List ℕ} → Kept d path path₁
+          → AtNext f ask index place t d path₀ counters₀ area₀ next path₁ counters₁ area
       unfolding Option-elim
-      entry_empty z {next} g formed = record {
+      entry_empty z {next} g formed k = record {
         at = record {
-          in_hand = after_unit x.in_hand u;
+          in_hand = on_kept (after_unit x.in_hand u) k;
           hop_left = x.hop_left;
           in_chain = next_in_chain few (next_entry g);
           area_long = x.area_long;
-          kept = x.kept;
+          kept = kept_on x.kept k;
           left =
               ap (λ (es : List Event). run f ask es counters₁ area)
               (sym (left_skips f place hops (drop d path₀) t (suc e) (chain_number next) (next_entry g)))

@@ -6,7 +6,7 @@ use Prim.Native.Nat.{ℕ, zero, suc, ◌+◌, ◌-◌, ◌≤◌}
 use native.Mathlib.Omega.{arith}
 use borrow.Author.Tests.{le-ltb}
 use lib.Dec.{eqb, leb, ltb}
-use Rattle.std.specs.Prelude.{Option, Result, Ok, Err}
+use Rattle.std.specs.Prelude.{Option, Result, Err}
 use Rattle.headers.specs.Bits.{positions, keep_if, those}
 use Rattle.headers.specs.Sets.{Set}
 use Rattle.headers.specs.Carving.{parts, carve}
@@ -15,7 +15,6 @@ use Rattle.forwarding.specs.Trace.{Find, Event, unit, carved}
 use Rattle.model.specs.Model.{fabric_in, wide_in}
 use Rattle.index.specs.Chains.{no_entry}
 use Rattle.index.proofs.Chained.{Next}
-use Rattle.index.specs.Places.{chain_number}
 use Rattle.entries.specs.Entries.{ranked_from}
 use Rattle.entries.proofs.Ranked.{ranked_next}
 use Rattle.events.specs.Play.{World, Played, and_then, unit_made, make_unit, step, play}
@@ -23,9 +22,11 @@ use Rattle.events.specs.Asked.{budget_of, world_of, played_of, found_by}
 use Rattle.events.specs.declared.Ask.{Ask}
 use Rattle.events.specs.declared.Counters.{Counters}
 use Rattle.events.specs.declared.Halt.{Halt}
-use Rattle.trials.specs.Trials.{Ending, met, past, used, ending_at, Tried, tried, meets, trials_from, NextMet}
+use Rattle.trials.specs.Trials.{Ending, met, past, used, ending_said, ending_number_of, answer_of, Tried, tried, meets, trials_from}
+use Rattle.trials.specs.Trials.{NextMet}
+use Rattle.trials.specs.declared.Ending as Declared
 use Rattle.trials.proofs.Next.{trial_refused, trial_met, trial_passed}
-use Rattle.trials.proofs.Found.{ending_found, entry_found, found_later, ending_used, budget_halts, budget_found_used, units_within}
+use Rattle.trials.proofs.Found.{said_is, said_met, said_used, found_later, ending_halts, budget_halts, budget_ended, units_within}
 use Rattle.backtrace.specs.Cycle.{Traced, Ended, survivor_events, events_from, events_cut, events_after}
 use Rattle.backtrace.proofs.Steps.{run}
 use Rattle.backtrace.proofs.Tracings.{InHand}
@@ -176,21 +177,24 @@ module _ {f : List ℕ} {ask : Ask} {index : List ℕ} {d : ℕ} {path : List �
       world_is : world_of counters area ≡ record { made = these.made; words = counters₀.words; area = area }
       world_is = λ i. record { made = (of_these n).units_are i; words = (of_these n).words_stay i; area = area }
 
-  module _ {o : Option ℕ} {counters : Counters} (n : Answered (Ok o) counters) where
-    pub part_ended : Ended f x p o
-    part_ended b h = (entry_found (wide_in f) p (budget_of ask) x q j counters₀.made (of_these n) b h).is
+  -- as the code's ending says
+  module _ (e : Declared.Ending) {counters : Counters} (n : Answered (answer_of (ending_said e)) counters) where
+    pub part_ended : Ended f ask x p counters (ending_said e)
+    part_ended = record {
+      entry_met = λ b h. (said_met (wide_in f) p (budget_of ask) x q j counters₀.made e (of_these n) b h).is;
+      budget_used = said_used (wide_in f) p (budget_of ask) x q j counters₀.made e (of_these n);
+    }
 
-    pub part_later : j ≤ no_entry → j ≤ chain_number o
-    part_later = found_later (wide_in f) p (budget_of ask) x q j counters₀.made (of_these n)
+    pub part_later : j ≤ no_entry → j ≤ ending_number_of e
+    part_later = found_later (wide_in f) p (budget_of ask) x q j counters₀.made e (of_these n)
 
     pub part_traced : (hops : ℕ) (way : List ℕ) {r : Result (Unit {0}) Halt} {counters' : Counters} {area' : List ℕ}
-        → Traced f ask (events_after f x q (ending_at o) hops way p) counters area r counters' area'
+        → Traced f ask (events_after f x q (ending_said e) hops way p) counters area r counters' area'
         → Traced f ask (events_from f x q j hops way p) counters₀ area r counters' area'
     part_traced hops way w = record {
       played =
           w.played
-          ∙ ap (λ (o : Ending). run f ask (events_after f x q o hops way p) counters area)
-          (ending_found (wide_in f) p (budget_of ask) x q j counters₀.made (of_these n))
+          ∙ ap (λ (o : Ending). run f ask (events_after f x q o hops way p) counters area) (said_is e (of_these n))
           ∙ left_played n hops way;
     }
 
@@ -200,8 +204,8 @@ module _ {f : List ℕ} {ask : Ask} {index : List ℕ} {d : ℕ} {path : List �
   unfolding play step make_unit
   part_halted {h} {counters} n hops way =
       let is = budget_halts (wide_in f) p (budget_of ask) x q j counters₀.made (of_these n) in
-      let ends = ending_used (wide_in f) p (budget_of ask) x q j counters₀.made (of_these n) in
-      let all = budget_found_used (wide_in f) p (budget_of ask) x q j counters₀.made (of_these n) in
+      let ends = ending_halts (wide_in f) p (budget_of ask) x q j counters₀.made (of_these n) in
+      let all = budget_ended (wide_in f) p (budget_of ask) x q j counters₀.made (of_these n) in
       record {
         played =
             ap (λ (h : Halt). played_of {T = Unit {0}} (Err h) counters area) is

@@ -1,5 +1,5 @@
 -- What the code of the trace promises: `stop` and `carve`, which call each other, and their leaves. Assumes nothing.
-use Rattle.std.specs.Prelude.{cond, ◌≡◌, ℕ, suc, ◌-◌, ◌≤◌, ◌<◌, Result, Option, Some, leb, length, drop}
+use Rattle.std.specs.Prelude.{cond, ◌≡◌, ℕ, suc, ◌-◌, ◌≤◌, ◌<◌, Result, leb, length, drop}
 use mathlib.Core.List.{List, [], ◌∷◌, flat_map}
 use Rattle.headers.specs.Sets.{Set}
 use Rattle.headers.specs.Carving.{carve}
@@ -78,6 +78,7 @@ events_after f x q used hops path p = unit ∷ []
 unfoldable pub taken_back : List ℕ → ℕ → ℕ → List ℕ → Set → List Event
 taken_back f e hops path = carved (wide_in f) (survivor_events f (in_port_of (wide_in f) e) hops (e ∷ path)) (beaters (wide_in f) e)
 
--- the part's trials ended at an entry that it meets, or at none
-abbrev pub Ended : List ℕ → ℕ → Set → Option ℕ → Type 0
-Ended f x p o = (b : ℕ) → o ≡ Some b → Met (wide_in f) x p b
+-- the part's trials ended with e: at an entry that it meets, or at none, or the budget is used
+pub record Ended (f : List ℕ) (ask : Ask) (x : ℕ) (p : Set) (counters : Counters) (e : Ending) : Type 0 where
+  pub entry_met : (b : ℕ) → e ≡ met b → Met (wide_in f) x p b
+  pub budget_used : e ≡ used → budget_of ask ≤ counters.made

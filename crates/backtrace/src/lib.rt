@@ -12,14 +12,14 @@ ghost use Rattle.model.specs.Model.{wide_in};
 ghost use Rattle.index.specs.Places.{number_of_place};
 ghost use Rattle.entries.specs.Entries.{IsEntry};
 ghost use Rattle.events.specs.Asked.{floor_of};
-ghost use Rattle.trials.specs.Trials.{Met, ending_at};
+ghost use Rattle.trials.specs.Trials.{Met, ending_said};
 ghost use Rattle.backtrace.specs.Cycle.{Tracing, Traced, Kept, IsPlace, Ended, events_at, events_cut, events_after, taken_back};
 
 use carving::Cut;
 use entries::Entry;
 use events::{Counters, Find, Halt};
 use index::Place;
-use trials::Trace;
+use trials::{Ending, Trace};
 use wide::WideSet;
 
 // ---- the path
@@ -120,19 +120,20 @@ fn take_back(
     let least = model::least_above(records::priority(entry.bytes));
     let first = index::first_in(trace.index, port);
     push(path, d - 1, e);
-    let b = trials::next_met(trace, least, first, p, counters).entry()?;
+    let b = trials::next_met(trace, least, first, p, counters);
     descend(trace, area, port, least, b, p, d - 1, path, counters)
 }
 
-// A part p at an in-port whose trials ended at b: on to the parts that entry b leaves of it, or back to the stop, if no entry was met; what
-// is met has at least this priority. The path from place d on begins with the entry that p is taken back by.
+// A part p at an in-port whose trials ended with b: on to the parts that the entry met leaves of it, or back to the stop, if none was met;
+// else it says that the budget is used. What is met has at least this priority. The path from place d on begins with the entry that p is
+// taken back by.
 #[cycle(carve_descend_stop)]
 pub fn descend(
     trace: &Trace,
     area: &mut [u8],
     port: usize,
     least: u32,
-    b: Option<usize>,
+    b: Ending,
     p: WideSet,
     d: usize,
     path: &mut [u32; 16],
@@ -140,18 +141,19 @@ pub fn descend(
 ) -> Result<(), Halt>
     requires tracing { Tracing trace.now.ask d path.old counters.old area.old }
     requires port_bound { port < 4096 }
-    requires ended { Ended trace.now.file.now port (wide_of p) b }
+    requires ended { Ended trace.now.file.now trace.now.ask port (wide_of p) counters.old (ending_said b) }
     ensures traced { Traced trace.now.file.now trace.now.ask
-        (events_after trace.now.file.now port least (ending_at b) (d - floor_of trace.now.ask) (drop d path.old) (wide_of p))
+        (events_after trace.now.file.now port least (ending_said b) (d - floor_of trace.now.ask) (drop d path.old) (wide_of p))
         counters.old area.old result counters.new area.new }
     ensures kept { Kept d path.old path.new }
 {
     match b {
-        Some(b) => carve(trace, area, port, least, b, p, d, path, counters),
-        None => {
+        Ending::Met(b) => carve(trace, area, port, least, b, p, d, path, counters),
+        Ending::Past => {
             let place = index::place_at(trace.index, port);
             stop(trace, area, place, p, d, path, counters)
         }
+        Ending::Used => Err(Halt::BudgetUsed),
     }
 }
 
@@ -185,11 +187,11 @@ fn carve(
         let part = cut.part(&matches);
         // the usual case: this is the last part, and nothing is read after its descent
         if cut.is_last(&matches) {
-            let k = trials::next_met(trace, least, next, part, counters).entry()?;
+            let k = trials::next_met(trace, least, next, part, counters);
             return descend(trace, area, port, least, k, part, d, path, counters);
         }
         cut = cut.next(&matches);
-        let k = trials::next_met(trace, least, next, part, counters).entry()?;
+        let k = trials::next_met(trace, least, next, part, counters);
         descend(trace, area, port, least, k, part, d, path, counters)?;
     }
     Ok(())

@@ -40,7 +40,7 @@ fn lost_ports(
             continue;
         }
         let first = index::first_in(trace.index, port);
-        let b = trials::next_met(trace, ANY_PRIORITY, first, t, counters).entry()?;
+        let b = trials::next_met(trace, ANY_PRIORITY, first, t, counters);
         backtrace::descend(trace, area, port, ANY_PRIORITY, b, t, 16, path, counters)?;
     }
     Ok(())

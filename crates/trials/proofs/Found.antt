@@ -1,30 +1,72 @@
--- What the answer that trials end with says: the entry that was met, or that there is none, or that the budget is used.
-use mathlib.Core.Bool.{Bool, true, false, ◌&&◌}
+-- What the ending that the code says and its number say: the entry that was met, or that there is none, or that the budget is used.
+use mathlib.Core.Bool.{Bool, true, false, cond, ◌&&◌}
 use mathlib.Core.List.{List}
 use mathlib.Core.Path.{◌≡◌, refl, sym, ap, ◌∙◌, subst}
 use Prim.Native.Nat.{ℕ, zero, suc, ◌+◌, ◌-◌, ◌≤◌, ◌<◌}
 use native.Mathlib.Decide.{dec_lt}
 use native.Mathlib.Omega.{arith}
-use borrow.Author.Tests.{eqb-true}
+use borrow.Author.Tests.{eqb-true, lt-ltb, le-ltb, ne_eqb}
 use lib.Dec.{eqb, leb, ltb}
-use Rattle.std.specs.Prelude.{Option, None, Some, Result, Ok, Err}
+use Rattle.std.specs.Prelude.{Option, Result, Err}
 use Rattle.headers.specs.Bits.{positions, keep_if, those}
 use Rattle.headers.specs.Sets.{Set}
 use Rattle.headers.proofs.Booleans.{and_fst}
 use Rattle.forwarding.specs.Fabric.{Fabric, in_port_of, priority_of}
 use Rattle.index.specs.Chains.{no_entry}
-use Rattle.index.specs.Places.{chain_number}
 use Rattle.entries.specs.Entries.{ranked_from}
 use Rattle.events.specs.declared.Counters.{Counters}
 use Rattle.events.specs.declared.Halt.{Halt}
 use Rattle.events.specs.declared.Halt.TheVariants.{BudgetUsed}
-use Rattle.trials.specs.Trials.{Ending, met, past, used, number_of, answer_of, ending_at, Tried, tried, meets, Met, NextMet}
+use Rattle.trials.specs.Trials.{Ending, met, past, used, number_of, ending_at, ending_said, ending_number_of, answer_of}
+use Rattle.trials.specs.Trials.{Tried, tried, meets, Met, NextMet}
+use Rattle.trials.specs.declared.Ending as Declared
+use Rattle.trials.specs.declared.Ending.TheVariants as Endings
 use Rattle.trials.proofs.Next.{trial_refused, trial_met, trial_passed, tried_within, tried_used}
 
--- an entry of a chain, or its end, has the number of the ending that it stands for
-ending_number : (o : Option ℕ) → number_of (ending_at o) ≡ chain_number o
-ending_number None = refl
-ending_number (Some b) = refl
+-- the ending with a number
+pub ending_met : (b : ℕ) → b < no_entry → ending_at b ≡ met b
+ending_met b l = ap (λ (t : Bool). cond t (met b) (cond (eqb b no_entry) past used)) (lt-ltb b no_entry l)
+
+pub ending_past : (b : ℕ) → b ≡ no_entry → ending_at b ≡ past
+ending_past b e = ap ending_at e
+
+pub ending_used : (b : ℕ) → no_entry < b → ending_at b ≡ used
+ending_used b l =
+    ap (λ (t : Bool). cond t (met b) (cond (eqb b no_entry) past used)) (le-ltb b no_entry (omega arith))
+    ∙ ap (λ (t : Bool). cond t past used) (ne_eqb b no_entry (λ e. omega arith))
+
+-- an ending's number is its own, where what is met is an entry
+pub ending_numbered : (e : Ending) → ((b : ℕ) → e ≡ met b → b < no_entry) → ending_at (number_of e) ≡ e
+ending_numbered (met b) l = ending_met b (l b refl)
+ending_numbered past l = refl
+ending_numbered used l = refl
+
+-- the code's ending has the number of the one that it says
+said_number : (r : Declared.Ending) → ending_number_of r ≡ number_of (ending_said r)
+said_number (Endings.Met b) = refl
+said_number Endings.Past = refl
+said_number Endings.Used = refl
+
+-- an answer is one ending's
+answer_one : (e o : Ending) → answer_of e ≡ answer_of o → e ≡ o
+answer_one (met b) (met c) h = let z : b ≡ c = cc in ap met z
+answer_one (met b) past h = let z : ◌≡◌ {A = ℕ} 0 1 = cc in absurd (omega arith)
+answer_one (met b) used h = let z : ◌≡◌ {A = ℕ} 0 1 = cc in absurd (omega arith)
+answer_one past (met b) h = let z : ◌≡◌ {A = ℕ} 0 1 = cc in absurd (omega arith)
+answer_one past past h = refl
+answer_one past used h = let z : ◌≡◌ {A = ℕ} 0 1 = cc in absurd (omega arith)
+answer_one used (met b) h = let z : ◌≡◌ {A = ℕ} 0 1 = cc in absurd (omega arith)
+answer_one used past h = let z : ◌≡◌ {A = ℕ} 0 1 = cc in absurd (omega arith)
+answer_one used used h = refl
+
+-- what the code's ending says is how trials end, and it has that ending's number
+module _ {after : Tried} {counters₀ counters : Counters} (r : Declared.Ending)
+    (n : NextMet after counters₀ (answer_of (ending_said r)) counters) where
+  pub said_is : ending_said r ≡ after.ending
+  said_is = answer_one (ending_said r) after.ending n.ending_is
+
+  pub number_is : ending_number_of r ≡ number_of after.ending
+  number_is = said_number r ∙ ap number_of said_is
 
 -- what the code's ending says is what trials answer
 pub told : {after : Tried} {counters₀ counters : Counters} {said r : Result (Option ℕ) Halt} → NextMet after counters₀ said counters
@@ -90,35 +132,58 @@ module _ (f : Fabric) (p : Set) (budget x q : ℕ) where
           let ends : past ≡ met b = rw none at e in
           let z : ◌≡◌ {A = ℕ} 0 1 = cc in absurd (omega arith)
 
-  -- ---- from the code's answer and the counters
+  -- ---- from the code's ending and the counters
 
   module _ (j made : ℕ) {counters₀ counters : Counters} where
-    module _ {o : Option ℕ} (n : NextMet (trials_at j made) counters₀ (Ok o) counters) where
-      -- the ending that it stands for is the one that was come to
-      pub ending_found : ending_at o ≡ (trials_at j made).ending
-      ending_found = go (trials_at j made).ending n.ending_is
-        where
-          go : (e : Ending) → Ok o ≡ answer_of e → ending_at o ≡ e
-          go (met b) h = let z : o ≡ Some b = cc in ap ending_at z
-          go past h = let z : o ≡ None = cc in ap ending_at z
-          go used h = let z : ◌≡◌ {A = ℕ} 0 1 = cc in absurd (omega arith)
+    module _ (r : Declared.Ending) (n : NextMet (trials_at j made) counters₀ (answer_of (ending_said r)) counters) where
+      -- the entry that it says is the one that was met
+      pub said_met : (b : ℕ) → ending_said r ≡ met b → MetFrom j b
+      said_met b h = trials_met j made b (sym (said_is r n) ∙ h)
 
-      -- an entry is the one that was met
-      pub entry_found : (b : ℕ) → o ≡ Some b → MetFrom j b
-      entry_found b h = trials_met j made b (sym ending_found ∙ ap ending_at h)
+      -- and where it says that the budget is used, all of it is
+      pub said_used : ending_said r ≡ used → budget ≤ counters.made
+      said_used h = rw n.units_are (tried_used (meets f p) budget (ranked_from f x q j) made (sym (said_is r n) ∙ h))
 
-      -- and none before the entry that trials began with
-      pub found_later : j ≤ no_entry → j ≤ chain_number o
-      found_later l = go o refl
+      -- its number is never less than the entry that trials began with
+      pub found_later : j ≤ no_entry → j ≤ ending_number_of r
+      found_later l = go r refl
         where
-          go : (m : Option ℕ) → o ≡ m → j ≤ chain_number m
-          go None h = l
-          go (Some b) h = (entry_found b h).low
+          go : (o : Declared.Ending) → r ≡ o → j ≤ ending_number_of o
+          go (Endings.Met b) h = (said_met b (ap ending_said h)).low
+          go Endings.Past h = l
+          go Endings.Used h = omega arith
+
+      module _ (few : f.entries ≤ no_entry) where
+        -- the ending with its number is the one that was come to
+        pub ending_found : ending_at (ending_number_of r) ≡ (trials_at j made).ending
+        ending_found =
+            ap ending_at (number_is r n)
+            ∙ ending_numbered (trials_at j made).ending (λ b h. let l = (trials_met j made b h).is.is_entry in omega arith)
+
+        -- a number below that of 'none' is the entry's that was met
+        pub entry_found : ending_number_of r < no_entry → MetFrom j (ending_number_of r)
+        entry_found l = go r refl l
+          where
+            go : (o : Declared.Ending) → r ≡ o → ending_number_of o < no_entry → MetFrom j (ending_number_of o)
+            go (Endings.Met b) h l = said_met b (ap ending_said h)
+            go Endings.Past h l = absurd (omega arith)
+            go Endings.Used h l = absurd (omega arith)
+
+        -- one above it says that the budget is used
+        pub budget_found_used : no_entry < ending_number_of r → budget ≤ counters.made
+        budget_found_used l = go r refl l
+          where
+            go : (o : Declared.Ending) → r ≡ o → no_entry < ending_number_of o → budget ≤ counters.made
+            go (Endings.Met b) h l =
+                let m = (said_met b (ap ending_said h)).is.is_entry in
+                absurd (omega arith)
+            go Endings.Past h l = absurd (omega arith)
+            go Endings.Used h l = said_used (ap ending_said h)
 
     -- where the trace ends, the budget is used, and all of it is
     module _ {h : Halt} (n : NextMet (trials_at j made) counters₀ (Err h) counters) where
-      pub ending_used : (trials_at j made).ending ≡ used
-      ending_used = go (trials_at j made).ending n.ending_is
+      pub ending_halts : (trials_at j made).ending ≡ used
+      ending_halts = go (trials_at j made).ending n.ending_is
         where
           go : (e : Ending) → Err h ≡ answer_of e → e ≡ used
           go (met b) k = let z : ◌≡◌ {A = ℕ} 0 1 = cc in absurd (omega arith)
@@ -127,11 +192,11 @@ module _ (f : Fabric) (p : Set) (budget x q : ℕ) where
 
       pub budget_halts : h ≡ BudgetUsed
       budget_halts =
-          let k : ◌≡◌ {A = Result (Option ℕ) Halt} (Err h) (Err BudgetUsed) = n.ending_is ∙ ap answer_of ending_used in
+          let k : ◌≡◌ {A = Result (Option ℕ) Halt} (Err h) (Err BudgetUsed) = n.ending_is ∙ ap answer_of ending_halts in
           let z : h ≡ BudgetUsed = cc in z
 
-      pub budget_found_used : budget ≤ counters.made
-      budget_found_used = rw n.units_are (tried_used (meets f p) budget (ranked_from f x q j) made ending_used)
+      pub budget_ended : budget ≤ counters.made
+      budget_ended = rw n.units_are (tried_used (meets f p) budget (ranked_from f x q j) made ending_halts)
 
     pub units_within : {r : Result (Option ℕ) Halt} → NextMet (trials_at j made) counters₀ r counters
         → made ≤ budget → counters.made ≤ budget

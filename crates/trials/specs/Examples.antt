@@ -1,7 +1,7 @@
 -- Trials, computed: entries 4, 9, 2 and 7, of which the part meets 9 and 7.
 use Rattle.std.specs.Prelude.{Bool, List, [], ◌∷◌, ◌≡◌, refl, ℕ, ltb, Some, None, Ok, Err}
 use Rattle.events.specs.declared.Halt.TheVariants.{BudgetUsed}
-use Rattle.trials.specs.Trials.{met, past, used, number_of, ending_said, answer_of, ending_at, tried, trials_of}
+use Rattle.trials.specs.Trials.{met, past, used, number_of, ending_at, ending_said, ending_number_of, answer_of, tried, trials_of}
 use Rattle.trials.specs.declared.Ending.TheVariants as Endings
 
 abbrev few : List ℕ
@@ -57,15 +57,26 @@ past_is_none = refl
 used_is_budget_used : answer_of used ≡ Err BudgetUsed
 used_is_budget_used = refl
 
-some_is_met : ending_at (Some 9) ≡ met 9
-some_is_met = refl
-
-none_is_past : ending_at None ≡ past
-none_is_past = refl
-
 -- no ending has another's number
 past_is_512 : number_of past ≡ 512
 past_is_512 = refl
 
 used_is_513 : number_of used ≡ 513
 used_is_513 = refl
+
+-- nor has the code's
+past_has_512 : ending_number_of Endings.Past ≡ 512
+past_has_512 = refl
+
+used_has_513 : ending_number_of Endings.Used ≡ 513
+used_has_513 = refl
+
+-- and each number is its ending's
+at_511_met : ending_at 511 ≡ met 511
+at_511_met = refl
+
+at_512_past : ending_at 512 ≡ past
+at_512_past = refl
+
+at_513_used : ending_at 513 ≡ used
+at_513_used = refl

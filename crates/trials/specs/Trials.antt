@@ -1,6 +1,6 @@
 -- A part tried against entries one after the other, until it meets one (T16): which of them that is, and the units made on the way. It
 -- knows neither what the part is carved for nor what comes of it.
-use Rattle.std.specs.Prelude.{Bool, true, cond, List, [], ◌∷◌, ◌≡◌, ℕ, suc, ◌+◌, ◌<◌, ltb}
+use Rattle.std.specs.Prelude.{Bool, true, cond, List, [], ◌∷◌, ◌≡◌, ℕ, suc, ◌+◌, ◌<◌, eqb, ltb}
 use Rattle.std.specs.Prelude.{Option, Some, None, Result, Ok, Err}
 use Rattle.std.proofs.Math.Option as maybe
 use Rattle.headers.specs.Sets.{Set, overlaps}
@@ -25,22 +25,27 @@ number_of (met b) = b
 number_of past = no_entry
 number_of used = suc no_entry
 
+-- and the ending with a number
+abbrev pub ending_at : ℕ → Ending
+ending_at r = cond (ltb r no_entry) (met r) (cond (eqb r no_entry) past used)
+
 -- the ending that the code's says
 abbrev pub ending_said : Declared.Ending → Ending
 ending_said (Endings.Met b) = met b
 ending_said Endings.Past = past
 ending_said Endings.Used = used
 
+-- and that ending's number in the code
+abbrev pub ending_number_of : Declared.Ending → ℕ
+ending_number_of (Endings.Met b) = b
+ending_number_of Endings.Past = no_entry
+ending_number_of Endings.Used = suc no_entry
+
 -- what the code answers for each: the entry, that there is none, or why the trace ends
 abbrev pub answer_of : Ending → Result (Option ℕ) Halt
 answer_of (met b) = Ok (Some b)
 answer_of past = Ok None
 answer_of used = Err BudgetUsed
-
--- and the ending of trials for which the budget has the units
-abbrev pub ending_at : Option ℕ → Ending
-ending_at (Some b) = met b
-ending_at None = past
 
 -- the trials' ending, and the units made by then
 pub record Tried : Type 0 where

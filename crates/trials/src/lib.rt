@@ -9,7 +9,7 @@ ghost use Rattle.index.specs.Index.{Index};
 ghost use Rattle.index.specs.Places.{chain_number, IsEntry};
 ghost use Rattle.entries.specs.Entries.{OfChain};
 ghost use Rattle.events.specs.Asked.{Asked, Asked-prop, budget_of};
-ghost use Rattle.trials.specs.Trials.{ending_said, answer_of, trials_from, NextMet};
+ghost use Rattle.trials.specs.Trials.{number_of, ending_said, ending_number_of, answer_of, trials_from, NextMet};
 
 use events::{Ask, Counters, Halt};
 use index::CELLS;
@@ -61,9 +61,11 @@ fn tried(
     requires own_version { version ≡ trace.now.ask.version }
     requires of_chain { OfChain (fabric_in trace.now.file.now).entries (chain_number j) }
     requires entry { IsEntry j }
-    ensures { NextMet
+    ensures answered { NextMet
         (trials_from (wide_in trace.now.file.now) (budget_of trace.now.ask) least (chain_number j) (wide_of p) counters.old.made)
         counters.old (answer_of (ending_said result)) counters.new }
+    ensures number_is { ending_number_of result ≡ number_of
+        (trials_from (wide_in trace.now.file.now) (budget_of trace.now.ask) least (chain_number j) (wide_of p) counters.old.made).ending }
 {
     // read once: for all that the compiler knows, counting a unit could change what stands behind a reference
     let Trace {
@@ -102,9 +104,11 @@ pub fn next_met(
 ) -> Ending
     requires of_chain { OfChain (fabric_in trace.now.file.now).entries (chain_number j) }
     requires entry { IsEntry j }
-    ensures { NextMet
+    ensures answered { NextMet
         (trials_from (wide_in trace.now.file.now) (budget_of trace.now.ask) least (chain_number j) (wide_of p) counters.old.made)
         counters.old (answer_of (ending_said result)) counters.new }
+    ensures number_is { ending_number_of result ≡ number_of
+        (trials_from (wide_in trace.now.file.now) (budget_of trace.now.ask) least (chain_number j) (wide_of p) counters.old.made).ending }
 {
     // a version that the compiler knows is faster
     match trace.ask.version {

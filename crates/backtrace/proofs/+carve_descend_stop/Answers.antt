@@ -1,5 +1,5 @@
 -- `carve`, `descend`, `stop` and `take_back` meet their contracts: each goal is a law of proofs/, at what the code has in hand.
-use Rattle.std.proofs.Common.{ℕ, suc, ◌+◌, ◌-◌, ◌<◌, List, get_or, take, drop, Option, Some, None, Ok, Err}
+use Rattle.std.proofs.Common.{ℕ, suc, ◌+◌, ◌-◌, ◌<◌, List, get_or, take, drop, Option, Some, None, Err}
 use Rattle.std.proofs.Common.{◌≡◌, ◌∙◌, refl, sym, ap, subst, arith, rules}
 use Rattle.std.proofs.lemmas.List.{take_all}
 use Rattle.headers.specs.Bits.{no_bit}
@@ -27,13 +27,14 @@ use Rattle.events.specs.Asked.{Path, budget_of}
 use Rattle.events.specs.declared.Ask.{Ask}
 use Rattle.events.specs.declared.Counters.{Counters}
 use Rattle.events.proofs.Ways.{hops_are}
-use Rattle.trials.specs.Trials.{Met, NextMet, trials_from}
-use Rattle.trials.proofs.Found.{told}
+use Rattle.trials.specs.Trials.{Met, NextMet, trials_from, ending_said, ending_number_of, answer_of}
+use Rattle.trials.specs.declared.Ending.{Ending}
 use Rattle.trials.specs.declared.Trace.{Trace}
 use Rattle.backtrace.specs.Cycle.{Tracing, Ended}
 use Rattle.backtrace.proofs.Tracings.{InHand, after_unit}
-use Rattle.backtrace.proofs.Trying.{part_ended, part_later, after_trials, part_traced, part_halted}
-use Rattle.backtrace.proofs.Descents.{place_found, descended_past}
+use Rattle.backtrace.proofs.Trying.{part_ended, part_later, after_trials, part_traced}
+use Rattle.backtrace.proofs.Descents.{place_found, descended_past, descended_used}
+use Rattle.backtrace.proofs.Paths.{kept_same}
 use Rattle.backtrace.proofs.Carves.{next_along, AtCut, match_there, first_part, parts_done, fewer_parts, part_last, part_through}
 use Rattle.backtrace.proofs.Carves.{part_stops, cares, cut_traced}
 use Rattle.backtrace.proofs.Takes.{head_of, with_entry, kept_under, took_back}
@@ -54,10 +55,10 @@ of_chain t along = (next_in_chain (entries_few t.asked.fabric) along).of_chain
 -- what `descend` asks of a part whose trials ended, beside the measure
 ended_at : {f : List ℕ} {ask : Ask} {index : List ℕ} {d : ℕ} {path : List ℕ} {counters : Counters} {area : List ℕ}
     (t : InHand f ask index d path counters area) {x : ℕ} (q : ℕ) (p : Set) {j i : ℕ}
-    → Next (in_port_of (fabric_in f)) (fabric_in f).entries x j i → {counters' : Counters} {o : Option ℕ}
-    → NextMet (trials_from (wide_in f) (budget_of ask) q i p counters.made) counters (Ok o) counters'
-    → x < 4096 → Tracing ask d path counters' area × (x < 4096 × Ended f x p o)
-ended_at t q p along n l = ((after_trials t _ q p along n).tracing, (l, part_ended t _ q p along n))
+    → Next (in_port_of (fabric_in f)) (fabric_in f).entries x j i → (e : Ending) → {counters' : Counters}
+    → NextMet (trials_from (wide_in f) (budget_of ask) q i p counters.made) counters (answer_of (ending_said e)) counters'
+    → x < 4096 → Tracing ask d path counters' area × (x < 4096 × Ended f ask x p counters' (ending_said e))
+ended_at t q p along e n l = ((after_trials t _ q p along n).tracing, (l, part_ended t _ q p along e n))
 
 -- ---- `carve`
 
@@ -93,67 +94,47 @@ carve-loop-matches-init t c =
       fours = fours;
     }
 
-pub carve-next_met-requires-clause-of_chain : goal.carve-next_met-requires-clause-of_chain
-carve-next_met-requires-clause-of_chain t c =
+pub carve-next_met-k-requires-clause-of_chain : goal.carve-next_met-k-requires-clause-of_chain
+carve-next_met-k-requires-clause-of_chain t c =
     of_chain c.args.trace.now (after_entry c.args.trace.now c.requires.met c.next_in-next.result c.next_in-next.ensures.value)
-
-pub carve-returns-in_err-k-clause-traced : goal.carve-returns-in_err-k-clause-traced
-carve-returns-in_err-k-clause-traced t c =
-    let n = told c.next_met.ensures c.in_err-k.ensures in
-    let along = after_entry c.args.trace.now c.requires.met c.next_in-next.result c.next_in-next.ensures.value in
-    let at = c.loop-matches.invariant in
-    let said : c.from_residual.result ≡ Err c.in_err-k.field-0.0 = search rules in
-    rw said (cut_traced _ _ _ _ _ (ap wide_of c.first-cut.ensures.set_value)
-    (part_stops at.at_part (left_exactly at ∙ sym c.is_done.ensures ∙ c.loop-matches-test.true) c.part-part.ensures
-    (part_halted at.at_part.in_hand _ c.args.least (wide_of c.part-part.result) along n _ _) refl))
 
 pub carve-descend-requires : goal.carve-descend-requires
 carve-descend-requires t c =
-    let n = told c.next_met.ensures c.in_ok-k.ensures in
+    let n = c.next_met-k.ensures.answered in
     let along = after_entry c.args.trace.now c.requires.met c.next_in-next.result c.next_in-next.ensures.value in
     let few = entries_few c.args.trace.now.asked.fabric in
     let hand = c.loop-matches.invariant.at_part.in_hand in
     let later = part_later hand _ c.args.least (wide_of c.part-part.result) along
-    n (omega (arith, c.requires.met.is_entry)) in (
+    c.next_met-k.result n (omega (arith, c.requires.met.is_entry)) in (
       omega (arith, c.decreases, c.requires.met.is_entry),
-      ended_at hand c.args.least (wide_of c.part-part.result) along n c.requires.port_bound,
+      ended_at hand c.args.least (wide_of c.part-part.result) along c.next_met-k.result n c.requires.port_bound,
     )
 
 pub carve-returns-then-is_last-clause-traced : goal.carve-returns-then-is_last-clause-traced
 carve-returns-then-is_last-clause-traced t c =
-    let n = told c.next_met.ensures c.in_ok-k.ensures in
+    let n = c.next_met-k.ensures.answered in
     let along = after_entry c.args.trace.now c.requires.met c.next_in-next.result c.next_in-next.ensures.value in
     let at = c.loop-matches.invariant in
     cut_traced _ _ _ _ _ (ap wide_of c.first-cut.ensures.set_value)
     (part_last at.at_part (left_exactly at ∙ sym c.is_done.ensures ∙ c.loop-matches-test.true) c.part-part.ensures
-    (part_traced at.at_part.in_hand _ c.args.least (wide_of c.part-part.result) along n _ _ c.descend.ensures.traced)
+    (part_traced at.at_part.in_hand _ c.args.least (wide_of c.part-part.result) along c.next_met-k.result n _ _ c.descend.ensures.traced)
     (sym c.is_last.ensures ∙ c.if-is_last.true))
 
-pub carve-next_met-requires-in-loop-matches-clause-of_chain :
-    goal.carve-next_met-requires-in-loop-matches-clause-of_chain
-carve-next_met-requires-in-loop-matches-clause-of_chain t c =
+pub carve-next_met-k-requires-in-loop-matches-clause-of_chain :
+    goal.carve-next_met-k-requires-in-loop-matches-clause-of_chain
+carve-next_met-k-requires-in-loop-matches-clause-of_chain t c =
     of_chain c.args.trace.now (after_entry c.args.trace.now c.requires.met c.next_in-next.result c.next_in-next.ensures.value)
-
-pub carve-returns-in_err-k-2-clause-traced : goal.carve-returns-in_err-k-2-clause-traced
-carve-returns-in_err-k-2-clause-traced t c =
-    let n = told c.next_met-in-loop-matches.ensures c.in_err-k-2.ensures in
-    let along = after_entry c.args.trace.now c.requires.met c.next_in-next.result c.next_in-next.ensures.value in
-    let at = c.loop-matches.invariant in
-    let said : c.from_residual-in_err-k-2.result ≡ Err c.in_err-k-2.field-0.0 = search rules in
-    rw said (cut_traced _ _ _ _ _ (ap wide_of c.first-cut.ensures.set_value)
-    (part_stops at.at_part (left_exactly at ∙ sym c.is_done.ensures ∙ c.loop-matches-test.true) c.part-part.ensures
-    (part_halted at.at_part.in_hand _ c.args.least (wide_of c.part-part.result) along n _ _) refl))
 
 pub carve-descend-requires-in-loop-matches : goal.carve-descend-requires-in-loop-matches
 carve-descend-requires-in-loop-matches t c =
-    let n = told c.next_met-in-loop-matches.ensures c.in_ok-k-2.ensures in
+    let n = c.next_met-k-in-loop-matches.ensures.answered in
     let along = after_entry c.args.trace.now c.requires.met c.next_in-next.result c.next_in-next.ensures.value in
     let few = entries_few c.args.trace.now.asked.fabric in
     let hand = c.loop-matches.invariant.at_part.in_hand in
     let later = part_later hand _ c.args.least (wide_of c.part-part.result) along
-    n (omega (arith, c.requires.met.is_entry)) in (
+    c.next_met-k-in-loop-matches.result n (omega (arith, c.requires.met.is_entry)) in (
       omega (arith, c.decreases, c.requires.met.is_entry),
-      ended_at hand c.args.least (wide_of c.part-part.result) along n c.requires.port_bound,
+      ended_at hand c.args.least (wide_of c.part-part.result) along c.next_met-k-in-loop-matches.result n c.requires.port_bound,
     )
 
 pub carve-loop-matches-smaller : goal.carve-loop-matches-smaller
@@ -163,12 +144,12 @@ carve-loop-matches-smaller t c =
 
 pub carve-loop-matches-preserved : goal.carve-loop-matches-preserved
 carve-loop-matches-preserved t c =
-    let n = told c.next_met-in-loop-matches.ensures c.in_ok-k-2.ensures in
+    let n = c.next_met-k-in-loop-matches.ensures.answered in
     let along = after_entry c.args.trace.now c.requires.met c.next_in-next.result c.next_in-next.ensures.value in
     let at = c.loop-matches.invariant in
     record {
       at_part = part_through at.at_part (left_exactly at ∙ sym c.is_done.ensures ∙ c.loop-matches-test.true) c.part-part.ensures
-          (part_traced at.at_part.in_hand _ c.args.least (wide_of c.part-part.result) along n _ _
+          (part_traced at.at_part.in_hand _ c.args.least (wide_of c.part-part.result) along c.next_met-k-in-loop-matches.result n _ _
           c.in_ok-descend.ensures.traced)
           refl c.in_ok-descend.ensures.kept c.descend-in-loop-matches.auto.area c.next-cut.ensures.set_value;
       is_cut = c.next-cut.ensures.cut_2;
@@ -177,13 +158,13 @@ carve-loop-matches-preserved t c =
 
 pub carve-returns-in_err-descend-clause-traced : goal.carve-returns-in_err-descend-clause-traced
 carve-returns-in_err-descend-clause-traced t c =
-    let n = told c.next_met-in-loop-matches.ensures c.in_ok-k-2.ensures in
+    let n = c.next_met-k-in-loop-matches.ensures.answered in
     let along = after_entry c.args.trace.now c.requires.met c.next_in-next.result c.next_in-next.ensures.value in
     let at = c.loop-matches.invariant in
-    let said : c.from_residual-in_err-descend.result ≡ Err c.in_err-descend.field-0.0 = search rules in
+    let said : c.from_residual.result ≡ Err c.in_err-descend.field-0.0 = search rules in
     rw said (cut_traced _ _ _ _ _ (ap wide_of c.first-cut.ensures.set_value)
     (part_stops at.at_part (left_exactly at ∙ sym c.is_done.ensures ∙ c.loop-matches-test.true) c.part-part.ensures
-    (part_traced at.at_part.in_hand _ c.args.least (wide_of c.part-part.result) along n _ _
+    (part_traced at.at_part.in_hand _ c.args.least (wide_of c.part-part.result) along c.next_met-k-in-loop-matches.result n _ _
     c.in_err-descend.ensures.traced) refl))
 
 pub carve-returns-clause-traced : goal.carve-returns-clause-traced
@@ -196,10 +177,10 @@ carve-returns-clause-traced t c =
 
 pub descend-carve-requires : goal.descend-carve-requires
 descend-carve-requires t c =
-    let at : chain_number c.args.b ≡ c.in-Some.b = ap chain_number c.in-Some.is in (
-      let met = c.requires.ended _ c.in-Some.is in
-          omega (arith, c.decreases, met.is_entry, entries_few c.args.trace.now.asked.fabric),
-      (c.requires.tracing, (c.requires.port_bound, c.requires.ended _ c.in-Some.is)),
+    let at : ending_number_of c.args.b ≡ c.in-Met.b = ap ending_number_of c.in-Met.is in
+    let met = c.requires.ended.entry_met _ (ap ending_said c.in-Met.is) in (
+      omega (arith, c.decreases, met.is_entry, entries_few c.args.trace.now.asked.fabric),
+      (c.requires.tracing, (c.requires.port_bound, met)),
     )
 
 pub descend-stop-requires : goal.descend-stop-requires
@@ -213,12 +194,16 @@ descend-stop-requires t c =
       ),
     )
 
-pub descend-returns-in-None-clause-traced : goal.descend-returns-in-None-clause-traced
-descend-returns-in-None-clause-traced t c =
+pub descend-returns-in-Past-clause-traced : goal.descend-returns-in-Past-clause-traced
+descend-returns-in-Past-clause-traced t c =
     let trace = c.args.trace.now in
-    rw c.in-None.is
-    (descended_past trace.asked.fabric trace.indexed c.requires.port_bound c.place_at-place.result c.place_at-place.ensures.value
-    _ _ _ c.stop.ensures.traced)
+    descended_past trace.asked.fabric trace.indexed c.requires.port_bound c.place_at-place.result c.place_at-place.ensures.value
+    c.args.least _ _ _ (ap ending_said c.in-Past.is) c.stop.ensures.traced
+
+pub descend-returns-in-Used-clause-traced : goal.descend-returns-in-Used-clause-traced
+descend-returns-in-Used-clause-traced t c =
+    let is_used = ap ending_said c.in-Used.is in
+    descended_used _ _ _ _ _ is_used (c.requires.ended.budget_used is_used)
 
 -- ---- `stop`
 
@@ -296,6 +281,7 @@ stop-loop-next-preserved-in_default-met t c =
     c.in-Some-unwritten.ensures (search rules) None c.in_default-met.ensures in
     entry_empty (come_to x c.in-Some.is) (below_none x c.in-Some.is) c.in_ok-unit.ensures entry.ensures.entry
     entry.ensures.same_version back refl c.next_out-next.ensures.value c.next_out-next.ensures.entry
+    (kept_same _ x.at.in_hand.tracing.on_path.long)
 
 -- an entry that copies or swaps them
 
@@ -342,6 +328,7 @@ stop-loop-next-preserved-in_default-met_before t c =
     c.in-Some-unwritten.ensures None c.in_default-met_before.ensures in
     entry_empty (come_to x c.in-Some.is) (below_none x c.in-Some.is) c.in_ok-unit.ensures entry.ensures.entry
     entry.ensures.same_version back refl c.next_out-next.ensures.value c.next_out-next.ensures.entry
+    (kept_same _ x.at.in_hand.tracing.on_path.long)
 
 -- an entry whose rewrite makes nothing into headers of the set, and the end of the chain
 
@@ -357,6 +344,7 @@ stop-loop-next-preserved t c =
     c.in_default-unwritten.ensures in
     entry_empty (come_to x c.in-Some.is) (below_none x c.in-Some.is) c.in_ok-unit.ensures entry.ensures.entry
     entry.ensures.same_version back refl c.next_out-next.ensures.value c.next_out-next.ensures.entry
+    (kept_same _ x.at.in_hand.tracing.on_path.long)
 
 pub stop-returns-clause-traced : goal.stop-returns-clause-traced
 stop-returns-clause-traced t c = rw c.in-Port.is (entries_end (at_end c.loop-next.invariant c.in_default.is) (omega arith) _)
@@ -369,46 +357,34 @@ take_back-push-requires t c = (
   omega (arith, c.requires.is_entry.within, entries_few c.args.trace.now.asked.fabric),
 )
 
-pub take_back-next_met-requires-clause-of_chain : goal.take_back-next_met-requires-clause-of_chain
-take_back-next_met-requires-clause-of_chain t c =
+pub take_back-next_met-b-requires-clause-of_chain : goal.take_back-next_met-b-requires-clause-of_chain
+take_back-next_met-b-requires-clause-of_chain t c =
     let hand = in_hand c.args.trace.now c.requires.tracing in
     of_chain c.args.trace.now
     (head_of hand c.requires.hop_left c.requires.is_entry (omega (arith, c.in_port-port.ensures)) c.first_in-first.ensures.value)
 
-pub take_back-returns-in_err-b-clause-traced : goal.take_back-returns-in_err-b-clause-traced
-take_back-returns-in_err-b-clause-traced t c =
-    let n = told c.next_met.ensures c.in_err-b.ensures in
-    let hand = in_hand c.args.trace.now c.requires.tracing in
-    let i = c.requires.is_entry in
-    let hop = c.requires.hop_left in
-    let along = head_of hand hop i (omega (arith, c.in_port-port.ensures)) c.first_in-first.ensures.value in
-    let said : c.from_residual.result ≡ Err c.in_err-b.field-0.0 = search rules in
-    rw said (took_back hand hop i c.push.ensures c.in_port-port.ensures _
-    (λ p. c.least_above-least.ensures p ∙ ap (outranks p) c.priority.ensures) _ _
-    (part_halted (with_entry hand hop i c.push.ensures) _ c.least_above-least.result (wide_of c.args.p) along n _ _))
-
 pub take_back-descend-requires : goal.take_back-descend-requires
 take_back-descend-requires t c =
-    let n = told c.next_met.ensures c.in_ok-b.ensures in
+    let n = c.next_met-b.ensures.answered in
     let hand = in_hand c.args.trace.now c.requires.tracing in
     let i = c.requires.is_entry in
     let hop = c.requires.hop_left in
     let along = head_of hand hop i (omega (arith, c.in_port-port.ensures)) c.first_in-first.ensures.value in (
       omega (arith, c.decreases, hop),
-      ended_at (with_entry hand hop i c.push.ensures) c.least_above-least.result (wide_of c.args.p) along n
+      ended_at (with_entry hand hop i c.push.ensures) c.least_above-least.result (wide_of c.args.p) along c.next_met-b.result n
           (omega (arith, c.in_port-port.ensures)),
     )
 
 pub take_back-returns-clause-traced : goal.take_back-returns-clause-traced
 take_back-returns-clause-traced t c =
-    let n = told c.next_met.ensures c.in_ok-b.ensures in
+    let n = c.next_met-b.ensures.answered in
     let hand = in_hand c.args.trace.now c.requires.tracing in
     let i = c.requires.is_entry in
     let hop = c.requires.hop_left in
     let along = head_of hand hop i (omega (arith, c.in_port-port.ensures)) c.first_in-first.ensures.value in
     took_back hand hop i c.push.ensures c.in_port-port.ensures _
     (λ p. c.least_above-least.ensures p ∙ ap (outranks p) c.priority.ensures) _ _
-    (part_traced (with_entry hand hop i c.push.ensures) _ c.least_above-least.result (wide_of c.args.p) along n _ _
+    (part_traced (with_entry hand hop i c.push.ensures) _ c.least_above-least.result (wide_of c.args.p) along c.next_met-b.result n _ _
     c.descend.ensures.traced)
 
 pub take_back-returns-clause-kept : goal.take_back-returns-clause-kept

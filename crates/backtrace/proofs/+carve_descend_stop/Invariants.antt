@@ -8,6 +8,7 @@ use Rattle.headers.specs.Carving.{parts}
 use Rattle.wide.specs.Forms.{wide_words, wide_of}
 use Rattle.stored.specs.Forms.{set_there}
 use Rattle.index.specs.Places.{chain_number}
+use Rattle.trials.specs.Trials.{ending_number_of}
 use Rattle.backtrace.proofs.Carves.{AtCut}
 use Rattle.backtrace.proofs.Stops.{AtNext}
 use Rattle.backtrace.proofs.+carve_descend_stop.Given as goal
@@ -17,7 +18,7 @@ abbrev pub decreases-carve : goal.decreases-carve
 decreases-carve l = l.d * 2048 + 2 * (512 - l.b)
 
 abbrev pub decreases-descend : goal.decreases-descend
-decreases-descend l = l.d * 2048 + 1 + 2 * (512 - chain_number l.b)
+decreases-descend l = l.d * 2048 + 1 + 2 * (512 - ending_number_of l.b)
 
 abbrev pub decreases-take_back : goal.decreases-take_back
 decreases-take_back l = l.d * 2048 - 1

@@ -6,8 +6,7 @@ use Rattle.index.specs.declared.Place.{Place}
 use Rattle.index.specs.declared.Place.TheVariants.{Nowhere, Port, Edge}
 use Rattle.entries.proofs.Entries.{entries_few}
 use Rattle.entries.proofs.InChains.{next_in_chain}
-use Rattle.trials.proofs.Found.{told}
-use Rattle.backtrace.proofs.Trying.{part_ended, after_trials, part_traced, part_halted}
+use Rattle.backtrace.proofs.Trying.{part_ended, after_trials, part_traced}
 use Rattle.losses.proofs.Ports.{ports_begin, ports_end, first_there, port_skipped, port_ended, port_through}
 use Rattle.losses.proofs.lost_ports.Goals as goal
 
@@ -26,8 +25,8 @@ pub loop-port-preserved-in-Nowhere : goal.loop-port-preserved-in-Nowhere
 loop-port-preserved-in-Nowhere c =
     port_skipped c.loop-port.invariant c.loop-port-test.true c.place_at.ensures.value (ap number_of_place c.in-Nowhere.is)
 
-pub next_met-requires : goal.next_met-requires
-next_met-requires c =
+pub next_met-b-requires : goal.next_met-b-requires
+next_met-b-requires c =
     let at = c.loop-port.invariant in
     let along = first_there at c.loop-port-test.true c.first_in-first.ensures.value in
     record {
@@ -35,45 +34,35 @@ next_met-requires c =
       entry = c.first_in-first.ensures.entry;
     }
 
-pub returns-in_err-b : goal.returns-in_err-b
-returns-in_err-b c =
-    let n = told c.next_met.ensures c.in_err-b.ensures in
-    let at = c.loop-port.invariant in
-    let along = first_there at c.loop-port-test.true c.first_in-first.ensures.value in
-    let there = somewhere c.place_at.result c.place_at.ensures.formed c.in_default.not-Nowhere in
-    let said : c.from_residual.result ≡ Err c.in_err-b.field-0.0 = search rules in
-    rw said (port_ended at c.loop-port-test.true c.place_at.ensures.value there
-    (part_halted at.in_hand _ 0 (wide_of c.args.t) along n _ _) refl)
-
 pub descend-requires : goal.descend-requires
 descend-requires c =
-    let n = told c.next_met.ensures c.in_ok-b.ensures in
+    let n = c.next_met-b.ensures.answered in
     let at = c.loop-port.invariant in
     let along = first_there at c.loop-port-test.true c.first_in-first.ensures.value in
     record {
       tracing = (after_trials at.in_hand _ 0 (wide_of c.args.t) along n).tracing;
       port_bound = c.loop-port-test.true;
-      ended = part_ended at.in_hand _ 0 (wide_of c.args.t) along n;
+      ended = part_ended at.in_hand _ 0 (wide_of c.args.t) along c.next_met-b.result n;
     }
 
 pub returns-in_err-descend : goal.returns-in_err-descend
 returns-in_err-descend c =
-    let n = told c.next_met.ensures c.in_ok-b.ensures in
+    let n = c.next_met-b.ensures.answered in
     let at = c.loop-port.invariant in
     let along = first_there at c.loop-port-test.true c.first_in-first.ensures.value in
     let there = somewhere c.place_at.result c.place_at.ensures.formed c.in_default.not-Nowhere in
-    let said : c.from_residual-in_err-descend.result ≡ Err c.in_err-descend.field-0.0 = search rules in
+    let said : c.from_residual.result ≡ Err c.in_err-descend.field-0.0 = search rules in
     rw said (port_ended at c.loop-port-test.true c.place_at.ensures.value there
-    (part_traced at.in_hand _ 0 (wide_of c.args.t) along n _ _ c.in_err-descend.ensures.traced) refl)
+    (part_traced at.in_hand _ 0 (wide_of c.args.t) along c.next_met-b.result n _ _ c.in_err-descend.ensures.traced) refl)
 
 pub loop-port-preserved : goal.loop-port-preserved
 loop-port-preserved c =
-    let n = told c.next_met.ensures c.in_ok-b.ensures in
+    let n = c.next_met-b.ensures.answered in
     let at = c.loop-port.invariant in
     let along = first_there at c.loop-port-test.true c.first_in-first.ensures.value in
     let there = somewhere c.place_at.result c.place_at.ensures.formed c.in_default.not-Nowhere in
     port_through at c.loop-port-test.true c.place_at.ensures.value there
-    (part_traced at.in_hand _ 0 (wide_of c.args.t) along n _ _ c.in_ok-descend.ensures.traced) refl
+    (part_traced at.in_hand _ 0 (wide_of c.args.t) along c.next_met-b.result n _ _ c.in_ok-descend.ensures.traced) refl
     c.in_ok-descend.ensures.kept c.descend.auto.area
 
 pub returns : goal.returns

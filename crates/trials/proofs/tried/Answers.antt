@@ -11,6 +11,8 @@ use Rattle.index.specs.Index.{Index, ranks}
 use Rattle.index.specs.Places.{chain_number}
 use Rattle.entries.proofs.Entries.{entries_few}
 use Rattle.entries.proofs.Ranked.{next_with_lem}
+use Rattle.trials.specs.declared.Ending.TheVariants.{Met, Past, Used}
+use Rattle.trials.proofs.Found.{number_is}
 use Rattle.trials.proofs.Walk.{AtTrial, unit_counted, first_trial, walk_ends, is_entry, ranked_lower, refused_at, met_at, passed_over}
 use Rattle.trials.proofs.tried.Goals.{After-next_in, then-least-rank+else-is_err+else-meets, else-least-rank}
 use Rattle.trials.proofs.tried.Goals as goal
@@ -23,8 +25,11 @@ rank_is i l h = h ∙ i.priorities _ l
 pub returns-in_default : goal.returns-in_default
 returns-in_default c =
     let t = c.args.trace.now in
-    walk_ends {f = wide_in t.file.now} {budget = t.ask.budget} {q = c.args.least} {p = wide_of c.args.p}
-    (entries_few t.asked.fabric) (first_trial c.requires.of_chain c.requires.entry c.in_default.is)
+    let n =
+    walk_ends {f = wide_in t.file.now} {budget = t.ask.budget} {q = c.args.least} {j = chain_number c.args.j} {p = wide_of c.args.p}
+    {counters₀ = c.args.counters.now} {counters = c.args.counters.now}
+    (entries_few t.asked.fabric) (first_trial c.requires.of_chain c.requires.entry c.in_default.is) in
+    record { answered = n; number_is = number_is Past n }
 
 pub loop-ask-init : goal.loop-ask-init
 loop-ask-init c = first_trial c.requires.of_chain c.requires.entry c.in-Some.is
@@ -42,7 +47,8 @@ returns-then-is_err c =
     let x = c.loop-ask.invariant in
     let is = rank_is t.indexed (is_entry few x) c.rank.ensures in
     let h : c.args.least ≤ priority_of (wide_in t.file.now) c.loop-ask.b = let h = c.if-least-rank.true in omega arith in
-    refused_at few x h (unit_counted c.unit.ensures) (c.is_err.ensures.negation ∙ ap not c.if-is_err.true)
+    let n = refused_at few x h (unit_counted c.unit.ensures) (c.is_err.ensures.negation ∙ ap not c.if-is_err.true) in
+    record { answered = n; number_is = number_is Used n }
 
 pub meets-requires-clause-e_bound : goal.meets-requires-clause-e_bound
 meets-requires-clause-e_bound c = is_entry (entries_few c.args.trace.now.asked.fabric) c.loop-ask.invariant
@@ -54,8 +60,9 @@ returns-then-meets c =
     let x = c.loop-ask.invariant in
     let is = rank_is t.indexed (is_entry few x) c.rank.ensures in
     let h : c.args.least ≤ priority_of (wide_in t.file.now) c.loop-ask.b = let h = c.if-least-rank.true in omega arith in
-    met_at few x h (unit_counted c.unit.ensures) (c.is_err.ensures.negation ∙ ap not c.if-is_err.false)
-    (sym c.meets.ensures ∙ c.if-meets.true)
+    let n = met_at few x h (unit_counted c.unit.ensures) (c.is_err.ensures.negation ∙ ap not c.if-is_err.false)
+    (sym c.meets.ensures ∙ c.if-meets.true) in
+    record { answered = n; number_is = number_is (Met c.loop-ask.b) n }
 
 pub next_in-requires : goal.next_in-requires
 next_in-requires c =
@@ -84,8 +91,12 @@ gone_on c =
 
 pub returns-in_default-next_in : goal.returns-in_default-next_in
 returns-in_default-next_in c =
-    walk_ends (entries_few c.args.trace.now.asked.fabric)
-    (rw c.in_default-next_in.is at (gone_on (goal.at.returns-in_default-next_in c).After-next_in))
+    let t = c.args.trace.now in
+    let n =
+    walk_ends {f = wide_in t.file.now} {budget = t.ask.budget} {q = c.args.least} {j = chain_number c.args.j} {p = wide_of c.args.p}
+    {counters₀ = c.args.counters.now} {counters = c.if-least-rank.counters} (entries_few t.asked.fabric)
+    (rw c.in_default-next_in.is at (gone_on (goal.at.returns-in_default-next_in c).After-next_in)) in
+    record { answered = n; number_is = number_is Past n }
 
 pub loop-ask-smaller : goal.loop-ask-smaller
 loop-ask-smaller c =
